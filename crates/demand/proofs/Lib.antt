@@ -1,0 +1,7 @@
+pub mod Plateaus
+pub mod Widths
+pub mod Listing
+pub mod Watches
+pub mod Totals
+pub mod Multiples
+pub mod Nearest

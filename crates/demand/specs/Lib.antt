@@ -1,0 +1,6 @@
+pub mod Shares
+pub mod Demands
+pub mod Horizons
+pub mod Multiples
+pub mod Watching
+pub mod Verdicts
