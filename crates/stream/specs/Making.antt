@@ -1,7 +1,8 @@
 -- What making a record answers: the first limit that is broken, in the order gap, deadline, budgets, short deadline; or a record of just this row.
 
 use mathlib.Core.Path.{_≡_}
-use Rattle.std.specs.Results.{Cases}
+use mathlib.Core.Bool.{true}
+use Rattle.std.specs.Results.{Cases, isOk}
 use Rattle.std.specs.declared.result.Result.{Result}
 use Rattle.std.specs.declared.result.Result.the-variants.{Err}
 use Rattle.stream.specs.declared.Refusal.{Refusal}
@@ -15,4 +16,6 @@ pub record Made (row : Row) (answer : Result Record Refusal) : Type 0 where
   pub deadline : GapFits row → (DeadlineFits row → ⊥) → answer ≡ Err DeadlineOutOfLimits
   pub budgets : GapFits row → DeadlineFits row → (BudgetsFit row → ⊥) → answer ≡ Err BudgetOutOfLimits
   pub short : GapFits row → DeadlineFits row → BudgetsFit row → (ShortFits row → ⊥) → answer ≡ Err ShortDeadlineOutOfLimits
-  pub made : GapFits row → DeadlineFits row → BudgetsFit row → ShortFits row → Cases answer (λ made. made .row ≡ row) (λ _. ⊥)
+  pub made : GapFits row → DeadlineFits row → BudgetsFit row → ShortFits row → isOk answer ≡ true
+  -- a record holds just the numbers given
+  pub holds : Cases answer (λ made. made .row ≡ row) (λ _. Unit {0})

@@ -1,0 +1,4 @@
+pub mod Forms
+pub mod Numerals
+pub mod Grammar
+pub mod Unique

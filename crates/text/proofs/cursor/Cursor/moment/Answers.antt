@@ -1,0 +1,13 @@
+use Rattle.std.proofs.shelf.Results.{err-from-errBy}
+use Rattle.std.specs.declared.result.Result.{Result}
+use Rattle.std.specs.declared.result.Result.the-variants.{Ok, Err}
+use Rattle.text.proofs.Grammar.{at-go, moment-read}
+use Rattle.text.proofs.cursor.Cursor.moment.Needs as need
+
+pub returns-in-Break-word : need.returns-in-Break-word
+returns-in-Break-word c =
+    let p = err-from-errBy (c .from-residual .result) (c .from-residual .ensures .1) in
+    rw (p .1, p .2) (at-go _ _ (c .in-Break-word .ensures tt))
+
+pub returns : need.returns
+returns c = moment-read (c .number .result) _ _ _ (c .in-Continue-word .ensures tt) (c .number .ensures)

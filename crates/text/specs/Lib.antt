@@ -1,0 +1,5 @@
+pub mod Shown
+pub mod Words
+pub mod Lines
+pub mod Reading
+pub mod Reader
