@@ -19,7 +19,7 @@ pub enum Question {
     At(u64),
 }
 
-// The least and the greatest m that a bank is asked about.
+// The first and the last m that a bank is asked about.
 const EARLIEST: i64 = -65535;
 
 const LATEST: i64 = 1000000;

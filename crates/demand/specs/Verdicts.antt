@@ -102,3 +102,9 @@ candidates (Some best) normal overrun = best ∷ normal ∷ overrun ∷ []
 abbrev pub NearestSoFar : {S : Type 0} → Kind S → S → ℕ → Option Point → Type 0
 NearestSoFar k b t None = t ≡ 0
 NearestSoFar k b t (Some point) = Nearest k b t point
+
+-- a demand is told within the lengths and the number of streams that are judged
+pub record DemandTold {S : Type 0} (k : Kind S) (b : S) (p : Phase) (t : ℕ) (answer : Option ℕ) : Type 0 where
+  pub told : k .streams b ≤ 32 → t ≤ 1000000 → answer ≡ Some (demand k b p t)
+  pub many : 32 < k .streams b → answer ≡ None
+  pub far : 1000000 < t → answer ≡ None

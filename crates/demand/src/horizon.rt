@@ -7,11 +7,9 @@ ghost use Rattle.std.specs.Results.{Cases};
 ghost use Rattle.stream.specs.declared.Refusal.the-variants.{HorizonTooFar};
 ghost use Rattle.stream.specs.declared.Row.{Row as Numbers};
 ghost use Rattle.demand.specs.Multiples.{Multiple, LeastMultiple, NextMultiple};
+use crate::FARTHEST;
 use stream::Refusal;
 use stream::Row;
-
-// No horizon may lie farther.
-const FARTHEST: u64 = 1000000;
 
 // The first of h, 2h, 3h .. that the gap divides.
 fn next_multiple(h: u64, gap: u64) -> Result<u64, Refusal>

@@ -47,6 +47,15 @@ impl Plateau {
     }
 }
 
+// What all jobs due ask for, less what a carried-over job did since the plateau began.
+fn less_done(row: Row, level: u64, since: u64) -> u64
+    requires { ⌜ level * row .certain < 2 ^ 37 ⌝ }
+    ensures { λ r. ⌜ r ≡ level * row .certain - (row .budget - since) ⌝ }
+{
+    let left = row.budget.saturating_sub(since);
+    (level * row.certain).saturating_sub(left)
+}
+
 // The overrun share of a stream, and its plateau from here on. The n that counts is the last one on the plateau, so no other is tried.
 fn overrun_share<B: Bank>(
     bank: &B,
@@ -72,8 +81,7 @@ fn overrun_share<B: Bank>(
             let m = length - slack;
             let level = ceiling_at(bank, stream, length, slack);
             let plateau = seen.at(m, level);
-            let done = row.budget.saturating_sub(m - plateau.start);
-            (plateau, (level * row.certain).saturating_sub(done))
+            (plateau, less_done(row, level, m - plateau.start))
         }
     }
 }

@@ -64,19 +64,19 @@ pub plan-misshapen : (before later : Reader) (fault : Fault) (answer : Result St
 plan-misshapen before later fault answer states off e =
     subst (λ (a : Result Start Fault). Planned (bytes-left before) (line-number before) states a (bytes-left later) (line-number later) states) (sym e)
     (subst (λ (r : Reader). Planned (bytes-left before) (line-number before) states (Err fault) (bytes-left r) (line-number r) states) (sym (off .same))
-        (misshapen (record { read = off .read; unread = off .unread; whole = off .whole; place = off .place; halts = off .halts })))
+    (misshapen (record { read = off .read; unread = off .unread; whole = off .whole; place = off .place; halts = off .halts })))
 
 pub plan-go : (before later : Reader) (moment line : ℕ) (states : List State) → LineRead before (Go moment) later → line ≡ line-number before → Planned (bytes-left before) (line-number before) states (Ok (record { moment = moment; line = line })) (bytes-left later) (line-number later) states
 plan-go before later moment line states read e =
     subst (λ (n : ℕ). Planned (bytes-left before) (line-number before) states (Ok (record { moment = moment; line = n })) (bytes-left later) (line-number later) states) (sym e)
     (subst (λ (n : ℕ). Planned (bytes-left before) (line-number before) states (Ok (record { moment = moment; line = line-number before })) (bytes-left later) n states) (sym (read .next))
-        (go (read .valid) (read .whole)))
+    (go (read .valid) (read .whole)))
 
 pub plan-refused : (before later : Reader) (row : Row) (line : ℕ) (fault : Fault) (answer : Result Start Fault) (states next : List State) → LineRead before (Sporadic row) later → line ≡ line-number before → Added states row line (Err fault) next → answer ≡ Err fault → Planned (bytes-left before) (line-number before) states answer (bytes-left later) (line-number later) next
 plan-refused before later row line fault answer states next read here a e =
     subst (λ (r : Result Start Fault). Planned (bytes-left before) (line-number before) states r (bytes-left later) (line-number later) next) (sym e)
     (subst (λ (n : ℕ). Planned (bytes-left before) (line-number before) states (Err fault) (bytes-left later) n next) (sym (read .next))
-        (refused row (read .valid) (read .whole) (subst (λ (n : ℕ). Added states row n (Err fault) next) here a)))
+    (refused row (read .valid) (read .whole) (subst (λ (n : ℕ). Added states row n (Err fault) next) here a)))
 
 pub plan-more : (before later : Reader) (row : Row) (line : ℕ) (states next : List State) → LineRead before (Sporadic row) later → line ≡ line-number before → Added states row line (Ok tt) next → (answer : Result Start Fault) (last : List ℕ) (end : ℕ) (final : List State) → Planned (bytes-left later) (line-number later) next answer last end final → Planned (bytes-left before) (line-number before) states answer last end final
 plan-more before later row line states next read here a answer last end final rest =

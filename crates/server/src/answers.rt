@@ -7,7 +7,6 @@ ghost use Rattle.std.specs.Vec.{made};
 ghost use Rattle.table.specs.Sporadics.{states-in};
 ghost use Rattle.text.specs.Shown.{answer-line};
 ghost use Rattle.server.specs.Replays.{Answered, lines-of};
-
 use crate::plan::open_plan;
 use std::alloc::AllocError;
 use std::alloc::Global;
@@ -25,7 +24,13 @@ pub(crate) enum Answers {
 }
 
 // Nothing has run yet.
-const NO_JOBS: Counts = Counts { accepted: 0, finished: 0, cut: 0, dropped: 0, waiting: 0 };
+const NO_JOBS: Counts = Counts {
+    accepted: 0,
+    finished: 0,
+    cut: 0,
+    dropped: 0,
+    waiting: 0,
+};
 
 impl Answers {
     pub(crate) fn to_text(self, heap: Global) -> Result<String, AllocError>

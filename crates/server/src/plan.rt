@@ -4,9 +4,8 @@ ghost use mathlib.Core.Path.{_≡_};
 ghost use Rattle.table.specs.Sporadics.{states-in};
 ghost use Rattle.text.specs.Reader.{bytes-left, line-number};
 ghost use Rattle.server.specs.Plans.{Added, Planned, Opened};
-
 use bank::Bank;
-use demand::test;
+use demand::admit;
 use stream::Fault;
 use stream::Layer;
 use stream::Record;
@@ -64,5 +63,5 @@ pub(crate) fn open_plan(reader: &mut Reader, bank: &mut Sporadic) -> Result<Verd
         return at_line(Err(Refusal::MomentTooLate), Layer::Engine, start.line);
     }
     bank.begin(start.moment);
-    at_line(test(bank), Layer::Demand, start.line)
+    at_line(admit(bank), Layer::Demand, start.line)
 }

@@ -15,7 +15,7 @@ pub enum Class {
     Background,
 }
 
-// The numbers of a stream as a plan gives them, not tested yet. Budgets are in turns, the others in ticks.
+// The numbers of a stream as a plan gives them, not yet held to any limit. Budgets are in turns, the others in ticks.
 #[derive(Clone, Copy)]
 pub struct Row {
     pub class: Class,
@@ -45,7 +45,7 @@ pub struct Point {
     pub margin: i64,
 }
 
-// What a test found: the horizon, how many lengths it looked at, and the point that decided, or that came nearest to failing.
+// What the judgment of a bank found: the horizon, how many lengths it looked at, and the point that decided, or that came nearest to failing.
 #[derive(Clone, Copy, PartialEq, Eq, Debug)]
 pub struct Verdict {
     pub horizon: u64,

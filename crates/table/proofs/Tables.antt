@@ -1,14 +1,13 @@
 -- What an act on a table does to the state of each stream.
 
-use Prim.Native.Nat.{ℕ, zero, suc, _+_, _-_, _≤_, _<_}
+use Prim.Native.Nat.{ℕ, zero, suc, _-_, _≤_, _<_}
 use native.Mathlib.Omega.{arith}
-use lib.Dec.{eqb}
 use lib.ListN.{length, getD, set}
-use mathlib.Core.Bool.{Bool, true, false, cond}
+use mathlib.Core.Bool.{Bool, true, cond}
 use mathlib.Core.List.{List, [], _∷_, map}
 use mathlib.Core.Logic.{⊎-elim, _≢_}
 use mathlib.Core.Path.{_≡_, refl, sym, ap, subst, _∙_}
-use Rattle.std.proofs.shelf.Lists.{getD-set-same, getD-set-other, length-set}
+use Rattle.std.proofs.shelf.Lists.{getD-set-same, length-set}
 use Rattle.std.proofs.shelf.Maps.{nth-getD, nth-past, nth-read}
 use Rattle.std.proofs.shelf.Tests.{cases-lt, eq-eqb, ne-eqb, cases-eq}
 use Rattle.std.specs.Options.{mapped, isSome}

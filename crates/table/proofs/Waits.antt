@@ -3,17 +3,16 @@
 use Prim.Native.Nat.{ℕ, _+_, _-_, _*_, _/_, _≤_, _<_}
 use native.Mathlib.Nat.{add-div-right, div-eq-of-lt, le-div-iff-mul-le, div-mul-le-self}
 use native.Mathlib.Omega.{arith}
-use lib.Dec.{ltb}
 use mathlib.Core.Bool.{Bool, cond}
 use mathlib.Core.Logic.{⊎-elim}
-use mathlib.Core.Path.{_≡_, refl, sym, ap, _∙_}
+use mathlib.Core.Path.{_≡_, ap}
 use Rattle.bank.specs.Ceilings.{Ceiling, back}
-use Rattle.std.proofs.shelf.Tests.{cases-lt, lt-ltb, le-ltb, ltb-false, ltb-true}
+use Rattle.std.proofs.shelf.Tests.{cases-lt, lt-ltb, le-ltb}
 use Rattle.stream.specs.Limits.{GapFits, DeadlineFits}
 use Rattle.stream.specs.declared.Row.{Row}
 use Rattle.table.specs.Waits.{every, after}
 
--- f before the moment v is 0, and from v on it is f
+-- f set back by v is 0 below v, and from there on f
 pub back-below : (f : ℕ → ℕ) (t v : ℕ) → t < v → back f t v ≡ 0
 back-below f t v h = ap (λ (b : Bool). cond b 0 (f (t - v))) (lt-ltb t v h)
 

@@ -1,13 +1,13 @@
 -- Where a text leaves a form, from where it leaves a part of the form.
 
-use Prim.Native.Nat.{ℕ, _+_, _<_, _≤_, suc}
+use Prim.Native.Nat.{ℕ, _+_, _<_}
 use lib.ListN.{length, getD, take, drop, length-append}
 use mathlib.Core.List.{List, [], _∷_, _++_, append-assoc, append-nil}
 use mathlib.Core.Logic.{_⊎_, inl, inr, ⊎-elim}
 use mathlib.Core.Path.{_≡_, refl, sym, ap, subst, _∙_}
 use native.Mathlib.Omega.{arith}
-use Rattle.std.proofs.shelf.Lists.{append-cancel-left, take-append-drop, drop-more, take-at, getD-at}
-use Rattle.text.specs.Words.{Exactly, Halts, Leaves}
+use Rattle.std.proofs.shelf.Lists.{append-cancel-left, take-append-drop, drop-more}
+use Rattle.text.specs.Words.{Exactly, Leaves}
 
 -- No word goes on to be another word.
 abbrev pub Apart : (List ℕ → Type 0) → Type 0
@@ -35,6 +35,13 @@ cut (a ∷ p) (d ∷ v) c w y e =
     let h : a ≡ d = cc in
     ⊎-elim (λ l. inl (l .0, (let k = l .1 in cc))) (λ r. inr (r .0, (let k = r .1 in cc))) (cut p v c w y t)
 
+-- a front that a word goes on from holds no other word
+no-word-inside : (L : List ℕ → Type 0) (p f q z : List ℕ) (b : ℕ) → Apart L → L f → L (p ++ b ∷ z) → p ≡ f ++ q → ⊥
+no-word-inside L p f q z b apart in-f word e =
+    let whole : (p ++ b ∷ z) ++ [] ≡ f ++ (q ++ b ∷ z) = append-nil (p ++ b ∷ z) ∙ ap (λ (x : List ℕ). x ++ b ∷ z) e ∙ append-assoc f q (b ∷ z) in
+    let same : p ++ b ∷ z ≡ f = apart (p ++ b ∷ z) f [] (q ++ b ∷ z) word in-f whole in
+    omega (arith, ap length same, ap length e, length-append p (b ∷ z), length-append f q)
+
 pub apart-exactly : (bytes : List ℕ) → Apart (Exactly bytes)
 apart-exactly bytes u v x y p q e = p ∙ sym q
 
@@ -56,12 +63,6 @@ leaves-first L M s n m apart in-m l =
     let b : ℕ = l .halts .due .0 in
     let z : List ℕ = l .halts .due .1 in
     let word : L (p ++ b ∷ z) = l .halts .due .2 in
-    let longer : (f q : List ℕ) → L f → p ≡ f ++ q → ⊥ =
-    λ f q in-f e.
-    let whole : (p ++ b ∷ z) ++ [] ≡ f ++ (q ++ b ∷ z) = append-nil (p ++ b ∷ z) ∙ ap (λ (x : List ℕ). x ++ b ∷ z) e ∙ append-assoc f q (b ∷ z) in
-    let same : p ++ b ∷ z ≡ f = apart (p ++ b ∷ z) f [] (q ++ b ∷ z) word in-f whole in
-    omega (arith, ap length same, ap length e, length-append p (b ∷ z), length-append f q)
-    in
     record {
       read = p;
       unread = l .unread;
@@ -70,7 +71,7 @@ leaves-first L M s n m apart in-m l =
       halts = record {
         due = (b, z ++ m, record { front = p ++ b ∷ z; back = m; in-front = word; in-back = in-m; joined = sym (append-assoc p (b ∷ z) m) });
         dead = λ c more w e t.
-            ⊎-elim (λ i. l .halts .dead c more (i .0) e (subst L (i .1) (t .in-front))) (λ r. longer (t .front) (r .0) (t .in-front) (r .1)) (cut p (t .front) c w (t .back) (t .joined));
+            ⊎-elim (λ i. l .halts .dead c more (i .0) e (subst L (i .1) (t .in-front))) (λ r. no-word-inside L p (t .front) (r .0) z b apart (t .in-front) word (r .1)) (cut p (t .front) c w (t .back) (t .joined));
       };
     }
 
@@ -147,12 +148,7 @@ stays L s w more k apart in-w e l = by (l .unread) refl
     p = l .read
 
     longer : (q : List ℕ) → p ≡ w ++ q → ⊥
-    longer q h =
-        let b : ℕ = l .halts .due .0 in
-        let z : List ℕ = l .halts .due .1 in
-        let whole : (p ++ b ∷ z) ++ [] ≡ w ++ (q ++ b ∷ z) = append-nil (p ++ b ∷ z) ∙ ap (λ (x : List ℕ). x ++ b ∷ z) h ∙ append-assoc w q (b ∷ z) in
-        let same : p ++ b ∷ z ≡ w = apart (p ++ b ∷ z) w [] (q ++ b ∷ z) (l .halts .due .2) in-w whole in
-        omega (arith, ap length same, ap length h, length-append p (b ∷ z), length-append w q)
+    longer q h = no-word-inside L p w q (l .halts .due .1) (l .halts .due .0) apart in-w (l .halts .due .2) h
 
     by : (u : List ℕ) → l .unread ≡ u → ⊥
     by [] h = longer more (sym (append-nil p) ∙ ap (λ (x : List ℕ). p ++ x) (sym h) ∙ sym (l .whole) ∙ e)

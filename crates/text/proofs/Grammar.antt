@@ -14,9 +14,8 @@ use Rattle.std.specs.declared.result.Result.the-variants.{Ok, Err}
 use Rattle.stream.specs.declared.Class.{Class}
 use Rattle.stream.specs.declared.Class.the-variants.{Critical, Background}
 use Rattle.stream.specs.declared.Row.{Row}
-use Rattle.text.specs.declared.line.Line.{Line}
 use Rattle.text.specs.declared.line.Line.the-variants.{Sporadic, Go}
-use Rattle.text.specs.Lines.{class-letter, row-bytes, moment-bytes, render, SmallRow, Valid, LineForm}
+use Rattle.text.specs.Lines.{class-letter, row-bytes, moment-bytes, SmallRow, LineForm}
 use Rattle.text.specs.declared.cursor.Misfit.{Misfit}
 use Rattle.text.specs.Reading.{closed, Reads}
 use Rattle.text.specs.Words.{Form, Exactly, Small, Leaves}
@@ -52,15 +51,16 @@ after-field M close s t n k low e l =
 begins : (w : List ℕ) (a b : ℕ) (x : List ℕ) → w ≡ a ∷ x → getD w 0 0 ≡ b → a ≡ b
 begins w a b x e h = ap (λ (l : List ℕ). getD l 0 0) (sym e) ∙ h
 
+pub same-class : (k l : Class) (x y : List ℕ) → class-letter k ++ x ≡ class-letter l ++ y → (k ≡ l) × (x ≡ y)
+same-class Critical Critical x y e = (refl, (cc))
+same-class Critical Background x y e = let z : _≡_ {A = ℕ} 72 76 = cc in let b : ⊥ = omega arith in absurd b
+same-class Background Critical x y e = let z : _≡_ {A = ℕ} 76 72 = cc in let b : ⊥ = omega arith in absurd b
+same-class Background Background x y e = (refl, (cc))
+
 apart-class : Apart ClassForm
-apart-class u v x y (Critical, u1, p) (Critical, u2, q) e = p ∙ sym q
-apart-class u v x y (Critical, u1, p) (Background, u2, q) e =
-    let z : _≡_ {A = ℕ} 72 76 = begins (72 ∷ x) 72 76 x refl (ap (λ (l : List ℕ). getD l 0 0) (ap (λ (l : List ℕ). l ++ x) (sym p) ∙ e ∙ ap (λ (l : List ℕ). l ++ y) q)) in
-    let b : ⊥ = omega arith in absurd b
-apart-class u v x y (Background, u1, p) (Critical, u2, q) e =
-    let z : _≡_ {A = ℕ} 76 72 = begins (76 ∷ x) 76 72 x refl (ap (λ (l : List ℕ). getD l 0 0) (ap (λ (l : List ℕ). l ++ x) (sym p) ∙ e ∙ ap (λ (l : List ℕ). l ++ y) q)) in
-    let b : ⊥ = omega arith in absurd b
-apart-class u v x y (Background, u1, p) (Background, u2, q) e = p ∙ sym q
+apart-class u v x y (k, a, p) (l, b, q) e =
+    let same = same-class k l x y (ap (λ (w : List ℕ). w ++ x) (sym p) ∙ e ∙ ap (λ (w : List ℕ). w ++ y) q) in
+    p ∙ ap class-letter (same .0) ∙ sym q
 
 class-joined : (w : List ℕ) → Or (Exactly (codes "H")) (Exactly (codes "L")) w → ClassForm w
 class-joined w (inl e) = (Critical, tt, e)

@@ -2,8 +2,8 @@
 
 use Prim.Native.Nat.{ℕ, zero, suc, _+_, _-_, _*_, _^_, _<_, _≤_}
 use lib.Dec.{lit<}
-use lib.ListN.{length, getD, take, drop, length-append, length-drop}
-use mathlib.Core.List.{List, [], _∷_, _++_, append-assoc, append-nil}
+use lib.ListN.{length, getD, take, drop, length-append}
+use mathlib.Core.List.{List, [], _∷_, _++_, append-assoc}
 use mathlib.Core.Logic.{_⊎_, inl, inr, ⊎-elim}
 use mathlib.Core.Path.{_≡_, refl, sym, ap, subst, _∙_}
 use native.Mathlib.Omega.{arith}
@@ -17,7 +17,7 @@ use Rattle.std.specs.Reads.{Digits, value}
 use Rattle.std.specs.Text.{In, digitValue}
 use Rattle.std.specs.Written.{decimal}
 use Rattle.text.specs.Reading.{Numeral, Counted, closed}
-use Rattle.text.specs.Words.{Form, Exactly, Small, Halts, Leaves}
+use Rattle.text.specs.Words.{Form, Exactly, Small, Leaves}
 use Rattle.text.proofs.Forms.{Apart, leaves-here}
 
 abbrev pub Field : List ℕ → List ℕ → Type 0

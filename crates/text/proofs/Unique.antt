@@ -3,25 +3,18 @@
 use Prim.Native.Nat.{ℕ}
 use lib.Chars.{codes}
 use lib.Dec.{lit<}
-use mathlib.Core.List.{List, [], _∷_, _++_, append-assoc}
-use mathlib.Core.Path.{_≡_, refl, sym, ap, subst, _∙_}
+use mathlib.Core.List.{List, _++_, append-assoc}
+use mathlib.Core.Path.{_≡_, refl, sym, ap, _∙_}
 use native.Mathlib.Omega.{arith}
 use Rattle.std.specs.Written.{decimal}
-use Rattle.stream.specs.declared.Class.{Class}
-use Rattle.stream.specs.declared.Class.the-variants.{Critical, Background}
 use Rattle.stream.specs.declared.Row.{Row}
 use Rattle.text.specs.declared.line.Line.{Line}
 use Rattle.text.specs.declared.line.Line.the-variants.{Sporadic, Go}
 use Rattle.text.specs.Lines.{class-letter, row-bytes, moment-bytes, render, SmallRow, Valid, LineForm}
 use Rattle.text.specs.Words.{Leaves}
 use Rattle.text.proofs.Forms.{Apart, stays}
+use Rattle.text.proofs.Grammar.{same-class}
 use Rattle.text.proofs.Numerals.{same-number}
-
-same-class : (k l : Class) (x y : List ℕ) → class-letter k ++ x ≡ class-letter l ++ y → (k ≡ l) × (x ≡ y)
-same-class Critical Critical x y e = (refl, (cc))
-same-class Critical Background x y e = let z : _≡_ {A = ℕ} 72 76 = cc in let b : ⊥ = omega arith in absurd b
-same-class Background Critical x y e = let z : _≡_ {A = ℕ} 76 72 = cc in let b : ⊥ = omega arith in absurd b
-same-class Background Background x y e = (refl, (cc))
 
 abbrev from-gap : Row → List ℕ → List ℕ
 from-gap r x = decimal (r .gap) ++ (codes ")\n" ++ x)

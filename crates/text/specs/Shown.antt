@@ -5,16 +5,13 @@ use mathlib.Core.List.{List, [], _∷_, _++_}
 use lib.Chars.{codes}
 use Rattle.std.specs.Written.{decimal, signed}
 use Rattle.stream.specs.Refusals.{number, letter}
-use Rattle.stream.specs.declared.Fault.{Fault}
 use Rattle.stream.specs.declared.Phase.{Phase}
 use Rattle.stream.specs.declared.Phase.the-variants.{Normal, Overrun}
 use Rattle.stream.specs.declared.Point.{Point}
 use Rattle.stream.specs.declared.Refusal.{Refusal}
 use Rattle.stream.specs.declared.Refusal.the-variants.{OutOfShape, TooManyStreams, GapOutOfLimits, DeadlineOutOfLimits, BudgetOutOfLimits, ShortDeadlineOutOfLimits, NoStream, HorizonTooFar, DemandExceeded, MomentTooLate, NoSuchStream, NotOpen}
-use Rattle.stream.specs.declared.Verdict.{Verdict}
 use Rattle.text.specs.declared.answer.Answer.{Answer}
 use Rattle.text.specs.declared.answer.Answer.the-variants.{Accepted, Refused, Total}
-use Rattle.text.specs.declared.answer.Counts.{Counts}
 
 abbrev pub phase-word : Phase → List ℕ
 phase-word Normal = codes "normal"

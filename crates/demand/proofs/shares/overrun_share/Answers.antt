@@ -34,14 +34,13 @@ sub-m-in-Critical g c =
     let l = c .pre .listed in
     flat-now (g .B·Bank .kind) (g .B·Bank·met .lawful) (c .args .bank .now) (c .args .stream) (c .args .row) l (c .args .length) (c .ceiling-at-level .result) (c .args .seen) (c .at-plateau .result) (c .if-length-slack .left) (c .in-Critical .is) (c .pre .watched) (c .ceiling-at-level .ensures (l .0) (l .1)) (c .at-plateau .ensures) .reaches
 
-pub mul-level : need.mul-level
-mul-level g c =
+pub less-done-requires : need.less-done-requires
+less-done-requires g c κs =
     let l = c .pre .listed in
     let k = g .B·Bank .kind in
     let b = c .args .bank .now in
     let small = certain-fits (listed-within k b (c .args .stream) (c .args .row) l) (c .in-Critical .is) in
-    let fits = asked-product k (g .B·Bank·met .lawful) b (c .args .stream) (c .args .row) l (c .args .length) (slack (c .args .row)) (c .ceiling-at-level .result) (c .args .row .certain) (c .pre .within) (c .ceiling-at-level .ensures (l .0) (l .1)) small in
-    omega arith
+    asked-product k (g .B·Bank·met .lawful) b (c .args .stream) (c .args .row) l (c .args .length) (slack (c .args .row)) (c .ceiling-at-level .result) (c .args .row .certain) (c .pre .within) (c .ceiling-at-level .ensures (l .0) (l .1)) small
 
 pub returns-else-length-slack : need.returns-else-length-slack
 returns-else-length-slack g c =
@@ -62,7 +61,7 @@ returns-else-length-slack g c =
     let small = asked-product k (g .B·Bank·met .lawful) b i row l t (slack row) (c .ceiling-at-level .result) (row .certain) (c .pre .within) is (certain-fits w critical) in
     let product = ap (λ (n : ℕ). n * row .certain) level in
     record {
-      value = omega (arith, c .saturating-sub .ensures, c .saturating-sub-done .ensures);
-      bound = omega (arith, c .saturating-sub .ensures);
+      value = omega (arith, c .less-done .ensures);
+      bound = omega (arith, c .less-done .ensures);
       watched = λ _. flat-seen (k .ceiling b i) (t - slack row) (t + 1 - slack row) p flat (omega arith);
     }

@@ -15,4 +15,4 @@ returns-then-start-gt-LATEST-MOMENT c =
 
 pub returns : need.returns
 returns c =
-    open-tested (c .in-Continue-start .start) (c .read-plan .last .bank) (c .begin .last .self) (c .test .result) (c .at-line-2 .result) (c .in-Continue-start .ensures tt) (c .if-start-gt-LATEST-MOMENT .left) (c .begin .ensures) (c .test .ensures) (c .at-line-2 .ensures)
+    open-tested (c .in-Continue-start .start) (c .read-plan .last .bank) (c .begin .last .self) (c .admit .result) (c .at-line-2 .result) (c .in-Continue-start .ensures tt) (c .if-start-gt-LATEST-MOMENT .left) (c .begin .ensures) (c .admit .ensures) (c .at-line-2 .ensures)

@@ -1,4 +1,4 @@
-use mathlib.Core.Path.{_≡_, subst}
+use mathlib.Core.Path.{subst}
 use Prim.Native.Nat.{ℕ}
 use Rattle.std.proofs.shelf.Lists.{take-rest}
 use Rattle.text.specs.Reading.{Numeral}

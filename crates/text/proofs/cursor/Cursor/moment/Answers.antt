@@ -1,6 +1,4 @@
 use Rattle.std.proofs.shelf.Results.{err-from-errBy}
-use Rattle.std.specs.declared.result.Result.{Result}
-use Rattle.std.specs.declared.result.Result.the-variants.{Ok, Err}
 use Rattle.text.proofs.Grammar.{at-go, moment-read}
 use Rattle.text.proofs.cursor.Cursor.moment.Needs as need
 

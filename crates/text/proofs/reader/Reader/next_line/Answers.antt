@@ -1,9 +1,8 @@
-use Prim.Native.Nat.{ℕ, _+_, _-_, _<_}
+use Prim.Native.Nat.{ℕ, _+_, _<_}
 use lib.ListN.{length, length-append}
-use mathlib.Core.List.{List, _++_}
 use mathlib.Core.Path.{_≡_, refl, ap, sym, _∙_}
 use native.Mathlib.Omega.{arith}
-use Rattle.std.specs.declared.result.Result.the-variants.{Ok, Err}
+use Rattle.std.specs.declared.result.Result.the-variants.{Ok}
 use Rattle.stream.specs.declared.Fault.{Fault}
 use Rattle.text.specs.declared.line.Line.{Line}
 use Rattle.text.specs.declared.line.Line.the-variants.{Sporadic, Go}
@@ -31,7 +30,7 @@ pub returns-in-Ok : need.returns-in-Ok
 returns-in-Ok c =
     let read = c .in-Ok .ensures tt in
     record {
-      answer = record { valid = read .0; whole = read .1; next = refl };
+      answer = record { valid = read .0; whole = read .1; next = omega arith };
       complete = λ line more valid e. ap (λ (l : Line). Ok l) (same-line (c .in-Ok .line) line _ more (read .0) valid (sym (read .1) ∙ e));
     }
 
@@ -39,14 +38,15 @@ pub returns-in-Err : need.returns-in-Err
 returns-in-Err c =
     let left = c .in-Err .ensures tt in
     let total = left-within LineForm (bytes-left (c .args .self .now)) (c .in-Err .misfit .left) left in
-    let byte : length (bytes-left (c .args .self .now)) - c .in-Err .misfit .left + 1 ≡ length (left .read) + 1 = omega (arith, total) in
+    let given = ap (λ (f : Fault). f .byte) (c .out-of-shape .ensures) in
+    let byte : c .out-of-shape .result .byte ≡ length (left .read) + 1 = omega (arith, total, given) in
     record {
       answer = record {
         same = refl;
         read = left .read;
         unread = left .unread;
         whole = left .whole;
-        place = c .out-of-shape .ensures ∙ ap (λ (n : ℕ). out-of-shape (c .args .self .now .line) n) byte;
+        place = c .out-of-shape .ensures ∙ ap (λ (n : ℕ). out-of-shape (c .args .self .now .line) n) (sym given ∙ byte);
         halts = left .halts;
       };
       complete = λ line more valid e. absurd (line-stays (bytes-left (c .args .self .now)) line more (c .in-Err .misfit .left) valid e left);

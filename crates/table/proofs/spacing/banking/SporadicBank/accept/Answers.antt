@@ -7,7 +7,7 @@ use Rattle.std.specs.Options.{mapped}
 use Rattle.std.specs.declared.option.Option.the-variants.{Some}
 use Rattle.std.specs.declared.result.Result.the-variants.{Ok}
 use Rattle.table.specs.Sporadics.{sporadic, states-in}
-use Rattle.table.specs.Tables.{states-of, state-of, opening-of, waiting, closed}
+use Rattle.table.specs.Tables.{states-of, state-of, opening-of, closed}
 use Rattle.table.specs.declared.shared.State.{State}
 use Rattle.table.specs.declared.spacing.Sporadic.{Sporadic}
 use Rattle.table.proofs.Openings.{idle-is-open}

@@ -9,11 +9,11 @@ use Rattle.stream.specs.declared.Refusal.the-variants.{HorizonTooFar}
 use Rattle.stream.specs.declared.Verdict.{Verdict}
 use Rattle.demand.specs.Verdicts.{Judged}
 use Rattle.demand.proofs.Listing.{listed-within, least-horizon, common-multiple}
-use Rattle.demand.proofs.test.Needs as need
+use Rattle.demand.proofs.admit.Needs as need
 
 pub common-multiple-requires : need.common-multiple-requires
 common-multiple-requires g c κs = record {
-  few = c .if-streams-gt32 .left;
+  few = c .if-streams-gt-MOST-STREAMS .left;
   spaced = λ i d h. listed-within (g .B·Bank .kind) (c .args .bank .now) _ _ (c .rows-of-rows .ensures i d h) .0 .0;
 }
 
@@ -27,7 +27,7 @@ returns-in-Break-horizon g c =
     let P : Result Verdict Refusal → Type 0 = λ r. Judged k b r in
     subst P (sym is) (record {
       some = omega (arith, c .streams-streams .ensures, c .if-streams-eq0 .left);
-      few = omega (arith, c .streams-streams .ensures, c .if-streams-gt32 .left);
+      few = omega (arith, c .streams-streams .ensures, c .if-streams-gt-MOST-STREAMS .left);
       far = λ m common. none .1 m (common-multiple k b (c .streams-streams .result) m (c .rows-of-rows .result) (c .rows-of-rows .ensures) common);
     })
 
@@ -40,7 +40,7 @@ scan-requires g c κs =
       listed = c .rows-of-rows .ensures;
       reach = record {
         some = omega (arith, whole, c .if-streams-eq0 .left);
-        few = omega (arith, whole, c .if-streams-gt32 .left);
+        few = omega (arith, whole, c .if-streams-gt-MOST-STREAMS .left);
         horizon = least-horizon (g .B·Bank .kind) (g .B·Bank·met .lawful) (c .args .bank .now) (c .streams-streams .result) (c .in-Continue-horizon .horizon) (c .rows-of-rows .result) whole (c .rows-of-rows .ensures) (l .0);
         near = l .1;
       };
