@@ -23,7 +23,8 @@ use Rattle.table.specs.Growing.{Grown}
 use Rattle.table.specs.Sporadics.{sporadic, states-in}
 use Rattle.table.specs.declared.spacing.Sporadic.{Sporadic as Bank}
 use Rattle.text.specs.Lines.{render}
-use Rattle.text.specs.Reader.{bytes-left, line-number, out-of-shape, LineRead, LineRefused}
+use Rattle.text.specs.Places.{out-of-shape}
+use Rattle.text.specs.Reader.{bytes-left, line-number, LineRead, LineRefused}
 use Rattle.text.specs.declared.answer.Answer.the-variants.{Accepted, Refused, Total}
 use Rattle.server.specs.Replays.{Answered, ended, followed, no-jobs}
 use Rattle.server.specs.declared.answers.Answers.the-variants.{Two}

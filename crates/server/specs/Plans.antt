@@ -20,7 +20,7 @@ use Rattle.table.specs.Tables.{fresh, opened}
 use Rattle.table.specs.declared.shared.State.{State}
 use Rattle.table.specs.declared.spacing.Sporadic.{Sporadic as Bank}
 use Rattle.text.specs.Lines.{render, Valid, LineForm}
-use Rattle.text.specs.Reader.{out-of-shape}
+use Rattle.text.specs.Places.{out-of-shape}
 use Rattle.text.specs.Words.{Halts}
 use Rattle.text.specs.declared.line.Line.{Line}
 use Rattle.text.specs.declared.line.Line.the-variants.{Sporadic, Go}

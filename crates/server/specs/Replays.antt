@@ -7,7 +7,7 @@ use Rattle.std.specs.declared.result.Result.{Result}
 use Rattle.std.specs.declared.result.Result.the-variants.{Ok, Err}
 use Rattle.stream.specs.declared.Fault.{Fault}
 use Rattle.stream.specs.declared.Verdict.{Verdict}
-use Rattle.text.specs.Reader.{out-of-shape}
+use Rattle.text.specs.Places.{out-of-shape}
 use Rattle.text.specs.Shown.{answer-line}
 use Rattle.text.specs.declared.answer.Answer.{Answer}
 use Rattle.text.specs.declared.answer.Answer.the-variants.{Accepted, Refused, Total}

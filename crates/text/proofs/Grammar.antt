@@ -16,7 +16,8 @@ use Rattle.stream.specs.declared.Class.the-variants.{Critical, Background}
 use Rattle.stream.specs.declared.Row.{Row}
 use Rattle.text.specs.declared.line.Line.the-variants.{Sporadic, Go}
 use Rattle.text.specs.Lines.{class-letter, row-bytes, moment-bytes, SmallRow, LineForm}
-use Rattle.text.specs.declared.cursor.Misfit.{Misfit}
+use Rattle.stream.specs.declared.Fault.{Fault}
+use Rattle.text.specs.declared.cursor.Origin.{Origin}
 use Rattle.text.specs.Reading.{closed, Reads}
 use Rattle.text.specs.Words.{Form, Exactly, Small, Leaves}
 use Rattle.text.proofs.Forms.{Apart, Then, Or, apart-exactly, leaves-same, leaves-first, leaves-second, leaves-left, leaves-right, leaves-here}
@@ -240,9 +241,9 @@ after-go s t k e l = leaves-moment s k (after-exactly FromGap (codes "go ") s t 
 moment-whole : (n : ℕ) (s t z : List ℕ) → s ≡ codes "go " ++ t → t ≡ closed (codes ")\n") n ++ z → s ≡ moment-bytes n ++ z
 moment-whole n s t z e h = let f = simp append-assoc at h in simp append-assoc (cc)
 
-pub moment-read : (r : Result ℕ Misfit) (s t z : List ℕ) → s ≡ codes "go " ++ t → Reads (closed (codes ")\n")) Small t r z → Reads moment-bytes Small s r z
-moment-read (Ok n) s t z e h = (h .0, moment-whole n s t z e (h .1))
-moment-read (Err m) s t z e h = after-go s t (m .left) e h
+pub moment-read : (origin : Origin) (r : Result ℕ Fault) (s t z : List ℕ) → s ≡ codes "go " ++ t → Reads origin (closed (codes ")\n")) Small t r z → Reads origin moment-bytes Small s r z
+moment-read origin (Ok n) s t z e h = (h .0, moment-whole n s t z e (h .1))
+moment-read origin (Err f) s t z e h = record { left = h .left; leaves = after-go s t (h .left) e (h .leaves); place = h .place }
 
 -- ---- the line
 

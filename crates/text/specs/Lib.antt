@@ -1,4 +1,5 @@
 pub mod Shown
+pub mod Places
 pub mod Words
 pub mod Lines
 pub mod Reading

@@ -6,11 +6,10 @@ use lib.ListN.{length}
 use mathlib.Core.List.{List, _++_}
 use mathlib.Core.Path.{_≡_}
 use Rattle.stream.specs.declared.Fault.{Fault}
-use Rattle.stream.specs.declared.Layer.the-variants.{Text}
-use Rattle.stream.specs.declared.Refusal.the-variants.{OutOfShape}
 use Rattle.text.specs.declared.line.Line.{Line}
 use Rattle.text.specs.declared.reader.Reader.{Reader}
 use Rattle.text.specs.Lines.{render, Valid, LineForm}
+use Rattle.text.specs.Places.{out-of-shape}
 use Rattle.text.specs.Words.{Halts}
 
 -- The bytes that are left.
@@ -20,10 +19,6 @@ bytes-left r = now (r .rest)
 -- The number of the line that comes next, from 1.
 abbrev pub line-number : Reader → ℕ
 line-number r = r .line
-
--- Out of shape at a line and a byte, both from 1.
-abbrev pub out-of-shape : ℕ → ℕ → Fault
-out-of-shape line byte = record { refusal = OutOfShape; layer = Text; line = line; byte = byte }
 
 -- A line was read, with its newline.
 pub record LineRead (before : Reader) (line : Line) (after : Reader) : Type 0 where

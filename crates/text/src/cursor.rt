@@ -7,8 +7,11 @@ ghost use lib.ListN.{length, getD, take};
 ghost use Rattle.std.specs.Reads.{value as digits-value};
 ghost use Rattle.std.specs.Results.{Cases};
 ghost use Rattle.std.specs.Text.{In};
-ghost use Rattle.text.specs.Reading.{ahead, closed, Reads, Numeral, Counted};
-ghost use Rattle.text.specs.Words.{Exactly, Small, Leaves};
+ghost use Rattle.text.specs.Reading.{ahead, closed, misfit-at, Reads, Strays, Numeral, Counted};
+ghost use Rattle.text.specs.Words.{Exactly, Small};
+use stream::Fault;
+use stream::Layer;
+use stream::Refusal;
 
 mod lines;
 
@@ -21,10 +24,11 @@ pub struct Cursor<'a> {
     pub rest: &'a [u8],
 }
 
-// The text is out of shape, and so many bytes are left from the first that is.
+// The line that is being read: its number, and one more than the bytes of the text from its start on.
 #[derive(Clone, Copy)]
-pub struct Misfit {
-    pub left: usize,
+pub struct Origin {
+    pub line: u64,
+    pub past: usize,
 }
 
 // How many digits at the front of the text are one number: 0 stands alone.
@@ -56,54 +60,57 @@ fn numeral_value(text: &[u8], len: usize) -> u64
 }
 
 impl<'a> Cursor<'a> {
-    // A misfit at the next byte.
-    fn misfit(&self) -> Misfit
-        ensures { λ r. ⌜ r .left ≡ length (ahead (now (self .entry))) ⌝ }
+    // Out of shape at the next byte.
+    fn misfit(&self, origin: Origin) -> Fault
+        ensures { λ r. ⌜ r ≡ misfit-at origin (length (ahead (now (self .entry)))) ⌝ }
     {
-        Misfit {
-            left: self.rest.len(),
+        Fault {
+            refusal: Refusal::OutOfShape,
+            layer: Layer::Text,
+            line: origin.line,
+            byte: origin.past.saturating_sub(self.rest.len()) as u64,
         }
     }
 
     // The next byte, which stays.
-    fn peek(&self) -> Result<char, Misfit>
-        ensures { λ r. ⌜ Cases r (λ c. (more : List ℕ) × (ahead (now (self .entry)) ≡ c ∷ more)) (λ e. (ahead (now (self .entry)) ≡ []) × (e .left ≡ 0)) ⌝ }
+    fn peek(&self, origin: Origin) -> Result<char, Fault>
+        ensures { λ r. ⌜ Cases r (λ c. (more : List ℕ) × (ahead (now (self .entry)) ≡ c ∷ more)) (λ e. (ahead (now (self .entry)) ≡ []) × (e ≡ misfit-at origin (length (ahead (now (self .entry)))))) ⌝ }
     {
         match self.rest {
             [first, ..] => Ok(char::from(*first)),
-            [] => Err(self.misfit()),
+            [] => Err(self.misfit(origin)),
         }
     }
 
-    fn byte(&mut self, byte: u8) -> Result<(), Misfit>
-        ensures { λ r. ⌜ Cases r (λ _. ahead (now (self .entry)) ≡ byte ∷ ahead (now (self .exit))) (λ e. ((more : List ℕ) → ahead (now (self .entry)) ≡ byte ∷ more → ⊥) × (e .left ≡ length (ahead (now (self .entry))))) ⌝ }
+    fn byte(&mut self, origin: Origin, byte: u8) -> Result<(), Fault>
+        ensures { λ r. ⌜ Cases r (λ _. ahead (now (self .entry)) ≡ byte ∷ ahead (now (self .exit))) (λ e. ((more : List ℕ) → ahead (now (self .entry)) ≡ byte ∷ more → ⊥) × (e ≡ misfit-at origin (length (ahead (now (self .entry)))))) ⌝ }
     {
         match self.rest {
             [first, rest @ ..] if *first == byte => {
                 self.rest = rest;
                 Ok(())
             }
-            _ => Err(self.misfit()),
+            _ => Err(self.misfit(origin)),
         }
     }
 
-    fn word(&mut self, word: &[u8]) -> Result<(), Misfit>
-        ensures { λ r. ⌜ Cases r (λ _. ahead (now (self .entry)) ≡ now (word .entry) ++ ahead (now (self .exit))) (λ e. Leaves (Exactly (now (word .entry))) (ahead (now (self .entry))) (e .left)) ⌝ }
+    fn word(&mut self, origin: Origin, word: &[u8]) -> Result<(), Fault>
+        ensures { λ r. ⌜ Cases r (λ _. ahead (now (self .entry)) ≡ now (word .entry) ++ ahead (now (self .exit))) (λ e. Strays origin (Exactly (now (word .entry))) (ahead (now (self .entry))) e) ⌝ }
     {
         for b in word {
-            self.byte(*b)?;
+            self.byte(origin, *b)?;
         }
         Ok(())
     }
 
     // A number, as many digits as can be its own.
-    fn digits(&mut self) -> Result<u64, Misfit>
-        ensures { λ r. ⌜ Cases r (λ n. Counted (ahead (now (self .entry))) n (ahead (now (self .exit)))) (λ e. ((c : ℕ) (more : List ℕ) → ahead (now (self .entry)) ≡ c ∷ more → In 48 57 c → ⊥) × (e .left ≡ length (ahead (now (self .entry))))) ⌝ }
+    fn digits(&mut self, origin: Origin) -> Result<u64, Fault>
+        ensures { λ r. ⌜ Cases r (λ n. Counted (ahead (now (self .entry))) n (ahead (now (self .exit)))) (λ e. ((c : ℕ) (more : List ℕ) → ahead (now (self .entry)) ≡ c ∷ more → In 48 57 c → ⊥) × (e ≡ misfit-at origin (length (ahead (now (self .entry)))))) ⌝ }
     {
         let text = self.rest;
         let len = numeral_len(text);
         if len == 0 {
-            return Err(self.misfit());
+            return Err(self.misfit(origin));
         }
         let value = numeral_value(text, len);
         self.rest = &text[len..];
@@ -111,12 +118,12 @@ impl<'a> Cursor<'a> {
     }
 
     // A number and the bytes that close it, the first of which is no digit.
-    fn number(&mut self, close: &[u8]) -> Result<u64, Misfit>
+    fn number(&mut self, origin: Origin, close: &[u8]) -> Result<u64, Fault>
         requires { ⌜ getD (now close) 0 48 < 48 ⌝ }
-        ensures { λ r. ⌜ Reads (closed (now (close .entry))) Small (ahead (now (self .entry))) r (ahead (now (self .exit))) ⌝ }
+        ensures { λ r. ⌜ Reads origin (closed (now (close .entry))) Small (ahead (now (self .entry))) r (ahead (now (self .exit))) ⌝ }
     {
-        let value = self.digits()?;
-        self.word(close)?;
+        let value = self.digits(origin)?;
+        self.word(origin, close)?;
         Ok(value)
     }
 }

@@ -7,8 +7,10 @@ ghost use Rattle.std.specs.Results.{Cases};
 ghost use Rattle.std.specs.declared.result.Result.the-variants.{Ok};
 ghost use Rattle.text.specs.declared.line.Line.{Line as LineOf};
 ghost use Rattle.text.specs.Lines.{render, Valid};
-ghost use Rattle.text.specs.Reader.{bytes-left, line-number, out-of-shape, LineRead, LineRefused};
+ghost use Rattle.text.specs.Places.{out-of-shape};
+ghost use Rattle.text.specs.Reader.{bytes-left, line-number, LineRead, LineRefused};
 use crate::cursor::Cursor;
+use crate::cursor::Origin;
 use crate::line::Line;
 use crate::reader::Reader;
 use stream::Fault;
@@ -21,18 +23,15 @@ impl<'a> Reader<'a> {
         ensures answer { λ r. ⌜ Cases r (λ line. LineRead (now (self .entry)) line (now (self .exit))) (λ fault. LineRefused (now (self .entry)) fault (now (self .exit))) ⌝ }
         ensures complete { λ r. ⌜ ((line : LineOf) (more : List ℕ) → Valid line → bytes-left (now (self .entry)) ≡ render line ++ more → r ≡ Ok line) ⌝ }
     {
+        let origin = Origin {
+            line: self.line,
+            past: self.rest.len() + 1,
+        };
         let mut cursor = Cursor { rest: self.rest };
-        match cursor.line() {
-            Ok(line) => {
-                self.rest = cursor.rest;
-                self.line += 1;
-                Ok(line)
-            }
-            Err(misfit) => {
-                let read = self.rest.len() - misfit.left;
-                Err(self.out_of_shape(read as u64 + 1))
-            }
-        }
+        let line = cursor.line(origin)?;
+        self.rest = cursor.rest;
+        self.line += 1;
+        Ok(line)
     }
 
     // Refuses what is left of the text, if anything is.

@@ -5,7 +5,8 @@ use Rattle.text.proofs.cursor.Cursor.moment.Needs as need
 pub returns-in-Break-word : need.returns-in-Break-word
 returns-in-Break-word c =
     let p = err-from-errBy (c .from-residual .result) (c .from-residual .ensures .1) in
-    rw (p .1, p .2) (at-go _ _ (c .in-Break-word .ensures tt))
+    let s = c .in-Break-word .ensures tt in
+    rw (p .1, p .2) (record { left = s .left; leaves = (at-go _ _ (s .leaves)); place = s .place })
 
 pub returns : need.returns
-returns c = moment-read (c .number .result) _ _ _ (c .in-Continue-word .ensures tt) (c .number .ensures)
+returns c = moment-read (c .args .origin) (c .number .result) _ _ _ (c .in-Continue-word .ensures tt) (c .number .ensures)

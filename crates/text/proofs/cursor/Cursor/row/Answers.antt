@@ -7,65 +7,85 @@ use Rattle.text.proofs.cursor.Cursor.row.Needs as need
 pub returns-in-Break-word : need.returns-in-Break-word
 returns-in-Break-word c =
     let p = err-from-errBy (c .from-residual .result) (c .from-residual .ensures .1) in
-    rw (p .1, p .2)
-    (at-kind _ _ (c .in-Break-word .ensures tt))
+    let s = c .in-Break-word .ensures tt in
+    rw (p .1, p .2) (record { left = s .left; leaves = (at-kind _ _ (s .leaves)); place = s .place })
 
 pub returns-in-Break-class : need.returns-in-Break-class
 returns-in-Break-class c =
     let p = err-from-errBy (c .from-residual-in-Break-class .result) (c .from-residual-in-Break-class .ensures .1) in
-    rw (p .1, p .2)
-    (at-class _ _ _ (c .in-Continue-word .ensures tt) (c .in-Break-class .ensures tt))
+    let s = c .in-Break-class .ensures tt in
+    rw (p .1, p .2) (record { left = s .left; leaves = (at-class _ _ _ (c .in-Continue-word .ensures tt) (s .leaves)); place = s .place })
 
 pub returns-in-Break-word-2 : need.returns-in-Break-word-2
 returns-in-Break-word-2 c =
     let p = err-from-errBy (c .from-residual-in-Break-word-2 .result) (c .from-residual-in-Break-word-2 .ensures .1) in
-    rw (p .1, p .2)
-    (at-bracket _ _ _ _ _ (c .in-Continue-word .ensures tt) (c .in-Continue-class .ensures tt) (c .in-Break-word-2 .ensures tt))
+    let s = c .in-Break-word-2 .ensures tt in
+    rw (p .1, p .2) (record { left = s .left; leaves = (at-bracket _ _ _ _ _ (c .in-Continue-word .ensures tt) (c .in-Continue-class .ensures tt) (s .leaves)); place = s .place })
 
 pub returns-in-Break-budget : need.returns-in-Break-budget
 returns-in-Break-budget c =
     let p = err-from-errBy (c .from-residual-in-Break-budget .result) (c .from-residual-in-Break-budget .ensures .1) in
-    rw (p .1, p .2)
-    (after-bracket _ _ _ _ _ _ (c .in-Continue-word .ensures tt) (c .in-Continue-class .ensures tt) (c .in-Continue-word-2 .ensures tt)
-    (at-field FromCertain (codes " ") _ _ (lit< tt) some-certain (c .in-Break-budget .ensures tt)))
+    let s = c .in-Break-budget .ensures tt in
+    rw (p .1, p .2) (record {
+      left = s .left;
+      leaves = (after-bracket _ _ _ _ _ _ (c .in-Continue-word .ensures tt) (c .in-Continue-class .ensures tt) (c .in-Continue-word-2 .ensures tt)
+          (at-field FromCertain (codes " ") _ _ (lit< tt) some-certain (s .leaves)));
+      place = s .place;
+    })
 
 pub returns-in-Break-certain : need.returns-in-Break-certain
 returns-in-Break-certain c =
     let p = err-from-errBy (c .from-residual-in-Break-certain .result) (c .from-residual-in-Break-certain .ensures .1) in
-    rw (p .1, p .2)
-    (after-bracket _ _ _ _ _ _ (c .in-Continue-word .ensures tt) (c .in-Continue-class .ensures tt) (c .in-Continue-word-2 .ensures tt)
-    (after-field FromCertain (codes " ") _ _ _ _ (lit< tt) (c .in-Continue-budget .ensures tt)
-    (at-field FromShort (codes ") (") _ _ (lit< tt) some-short (c .in-Break-certain .ensures tt))))
+    let s = c .in-Break-certain .ensures tt in
+    rw (p .1, p .2) (record {
+      left = s .left;
+      leaves = (after-bracket _ _ _ _ _ _ (c .in-Continue-word .ensures tt) (c .in-Continue-class .ensures tt) (c .in-Continue-word-2 .ensures tt)
+          (after-field FromCertain (codes " ") _ _ _ _ (lit< tt) (c .in-Continue-budget .ensures tt)
+          (at-field FromShort (codes ") (") _ _ (lit< tt) some-short (s .leaves))));
+      place = s .place;
+    })
 
 pub returns-in-Break-short : need.returns-in-Break-short
 returns-in-Break-short c =
     let p = err-from-errBy (c .from-residual-in-Break-short .result) (c .from-residual-in-Break-short .ensures .1) in
-    rw (p .1, p .2)
-    (after-bracket _ _ _ _ _ _ (c .in-Continue-word .ensures tt) (c .in-Continue-class .ensures tt) (c .in-Continue-word-2 .ensures tt)
-    (after-field FromCertain (codes " ") _ _ _ _ (lit< tt) (c .in-Continue-budget .ensures tt)
-    (after-field FromShort (codes ") (") _ _ _ _ (lit< tt) (c .in-Continue-certain .ensures tt)
-    (at-field FromDeadline (codes " ") _ _ (lit< tt) some-deadline (c .in-Break-short .ensures tt)))))
+    let s = c .in-Break-short .ensures tt in
+    rw (p .1, p .2) (record {
+      left = s .left;
+      leaves = (after-bracket _ _ _ _ _ _ (c .in-Continue-word .ensures tt) (c .in-Continue-class .ensures tt) (c .in-Continue-word-2 .ensures tt)
+          (after-field FromCertain (codes " ") _ _ _ _ (lit< tt) (c .in-Continue-budget .ensures tt)
+          (after-field FromShort (codes ") (") _ _ _ _ (lit< tt) (c .in-Continue-certain .ensures tt)
+          (at-field FromDeadline (codes " ") _ _ (lit< tt) some-deadline (s .leaves)))));
+      place = s .place;
+    })
 
 pub returns-in-Break-deadline : need.returns-in-Break-deadline
 returns-in-Break-deadline c =
     let p = err-from-errBy (c .from-residual-in-Break-deadline .result) (c .from-residual-in-Break-deadline .ensures .1) in
-    rw (p .1, p .2)
-    (after-bracket _ _ _ _ _ _ (c .in-Continue-word .ensures tt) (c .in-Continue-class .ensures tt) (c .in-Continue-word-2 .ensures tt)
-    (after-field FromCertain (codes " ") _ _ _ _ (lit< tt) (c .in-Continue-budget .ensures tt)
-    (after-field FromShort (codes ") (") _ _ _ _ (lit< tt) (c .in-Continue-certain .ensures tt)
-    (after-field FromDeadline (codes " ") _ _ _ _ (lit< tt) (c .in-Continue-short .ensures tt)
-    (at-field FromGap (codes ") ") _ _ (lit< tt) some-gap (c .in-Break-deadline .ensures tt))))))
+    let s = c .in-Break-deadline .ensures tt in
+    rw (p .1, p .2) (record {
+      left = s .left;
+      leaves = (after-bracket _ _ _ _ _ _ (c .in-Continue-word .ensures tt) (c .in-Continue-class .ensures tt) (c .in-Continue-word-2 .ensures tt)
+          (after-field FromCertain (codes " ") _ _ _ _ (lit< tt) (c .in-Continue-budget .ensures tt)
+          (after-field FromShort (codes ") (") _ _ _ _ (lit< tt) (c .in-Continue-certain .ensures tt)
+          (after-field FromDeadline (codes " ") _ _ _ _ (lit< tt) (c .in-Continue-short .ensures tt)
+          (at-field FromGap (codes ") ") _ _ (lit< tt) some-gap (s .leaves))))));
+      place = s .place;
+    })
 
 pub returns-in-Break-gap : need.returns-in-Break-gap
 returns-in-Break-gap c =
     let p = err-from-errBy (c .from-residual-in-Break-gap .result) (c .from-residual-in-Break-gap .ensures .1) in
-    rw (p .1, p .2)
-    (after-bracket _ _ _ _ _ _ (c .in-Continue-word .ensures tt) (c .in-Continue-class .ensures tt) (c .in-Continue-word-2 .ensures tt)
-    (after-field FromCertain (codes " ") _ _ _ _ (lit< tt) (c .in-Continue-budget .ensures tt)
-    (after-field FromShort (codes ") (") _ _ _ _ (lit< tt) (c .in-Continue-certain .ensures tt)
-    (after-field FromDeadline (codes " ") _ _ _ _ (lit< tt) (c .in-Continue-short .ensures tt)
-    (after-field FromGap (codes ") ") _ _ _ _ (lit< tt) (c .in-Continue-deadline .ensures tt)
-    (c .in-Break-gap .ensures tt))))))
+    let s = c .in-Break-gap .ensures tt in
+    rw (p .1, p .2) (record {
+      left = s .left;
+      leaves = (after-bracket _ _ _ _ _ _ (c .in-Continue-word .ensures tt) (c .in-Continue-class .ensures tt) (c .in-Continue-word-2 .ensures tt)
+          (after-field FromCertain (codes " ") _ _ _ _ (lit< tt) (c .in-Continue-budget .ensures tt)
+          (after-field FromShort (codes ") (") _ _ _ _ (lit< tt) (c .in-Continue-certain .ensures tt)
+          (after-field FromDeadline (codes " ") _ _ _ _ (lit< tt) (c .in-Continue-short .ensures tt)
+          (after-field FromGap (codes ") ") _ _ _ _ (lit< tt) (c .in-Continue-deadline .ensures tt)
+          (s .leaves))))));
+      place = s .place;
+    })
 
 pub returns : need.returns
 returns c =

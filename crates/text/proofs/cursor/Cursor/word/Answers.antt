@@ -1,7 +1,7 @@
 use Prim.Native.Nat.{ℕ, _+_, _<_}
 use lib.ListN.{length, getD, take}
 use mathlib.Core.List.{List, [], _∷_, _++_}
-use mathlib.Core.Path.{_≡_, ap, sym, _∙_}
+use mathlib.Core.Path.{_≡_, refl, ap, sym, _∙_}
 use Rattle.std.proofs.shelf.Lists.{take-more, take-all, append-assoc}
 use Rattle.std.proofs.shelf.Results.{err-from-errBy}
 use Rattle.text.specs.Reading.{ahead}
@@ -16,7 +16,7 @@ one-more bytes s t u i lt e h =
 pub returns-in-Break-byte : need.returns-in-Break-byte
 returns-in-Break-byte c =
     let p = err-from-errBy (c .from-residual .result) (c .from-residual .ensures .1) in
-    rw (p .1, p .2) (leaves-exactly _ _ _ (c .loop-b .b-index) _ (c .loop-b-test .taken) (c .loop-b .inv) (c .in-Break-byte .ensures tt .0) (c .in-Break-byte .ensures tt .1))
+    rw (p .1, p .2) (record { left = _; leaves = leaves-exactly _ _ _ (c .loop-b .b-index) _ (c .loop-b-test .taken) (c .loop-b .inv) (c .in-Break-byte .ensures tt .0) refl; place = c .in-Break-byte .ensures tt .1 })
 
 pub loop-b-again : need.loop-b-again
 loop-b-again c = one-more _ _ _ _ (c .loop-b .b-index) (c .loop-b-test .taken) (c .loop-b .inv) (c .in-Continue-byte .ensures tt)
