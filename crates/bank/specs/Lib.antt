@@ -4,3 +4,4 @@ pub mod Ceilings
 pub mod Laws
 pub mod Accepting
 pub mod Runs
+pub mod Rules

@@ -2,11 +2,14 @@
 
 ghost use Prim.Native.Nat.{ℕ};
 ghost use mathlib.Core.Path.{_≡_};
-ghost use Rattle.std.specs.declared.option.Option.the-variants.{Some};
+ghost use mathlib.Core.Bool.{true, false};
+ghost use Rattle.std.specs.declared.option.Option.the-variants.{Some, None};
+ghost use Rattle.stream.specs.declared.limits.Record.{Record as Rec};
 ghost use Rattle.bank.specs.Accepting.{Accepted};
 ghost use Rattle.bank.specs.Kinds.{Kind};
 ghost use Rattle.bank.specs.Laws.{Laws};
 ghost use Rattle.bank.specs.Questions.{asked, told, counted, spanned};
+ghost use Rattle.bank.specs.Rules.{Rules};
 ghost use Rattle.bank.specs.Runs.{AtMost};
 use stream::Record;
 use stream::Refusal;
@@ -81,4 +84,15 @@ pub fn most_accepted<B: Bank>(bank: &B, stream: u64, moments: u64) -> Option<u64
         return None;
     }
     bank.ceiling(stream, moments as i64 - 1)
+}
+
+// Whether a stream exists. If so, all that is asked of a bank holds of it, said over whole numbers.
+pub fn has_stream<B: Bank>(bank: &B, stream: u64) -> bool
+    ensures there { λ r. ⌜ (r ≡ true → (rec : Rec) × (kind .records (now (bank .entry)) stream ≡ Some rec) × Rules kind (now (bank .entry)) stream rec) ⌝ }
+    ensures absent { λ r. ⌜ (r ≡ false → kind .records (now (bank .entry)) stream ≡ None) ⌝ }
+{
+    match bank.record_of(stream) {
+        Some(_) => true,
+        None => false,
+    }
 }

@@ -5,3 +5,4 @@ pub mod Watches
 pub mod Totals
 pub mod Multiples
 pub mod Nearest
+pub mod Loading

@@ -21,7 +21,7 @@ use Rattle.demand.specs.declared.Plateau.{Plateau}
 use Rattle.demand.specs.Shares.{slack}
 use Rattle.demand.specs.Watching.{Flat, Seen, Watched, WatchedFrom, Listed, moved}
 use Rattle.demand.proofs.Listing.{listed-within, listed-ceiling}
-use Rattle.demand.proofs.Widths.{back-after}
+use Rattle.bank.proofs.Backs.{back-after}
 use Rattle.demand.proofs.Plateaus.{plateau-first, plateau-stays, plateau-rises}
 
 -- asked at m, the plateau of m is known

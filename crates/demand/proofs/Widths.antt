@@ -4,20 +4,14 @@ use Prim.Native.Nat.{ℕ, zero, suc, _+_, _-_, _*_, _/_, _%_, _^_, _≤_, _<_}
 use native.Mathlib.Nat.{mul-le-mul, mul-le-mul-left, mul-le-mul-right, add-mul, one-mul, zero-mul, mod-add-div'}
 use native.Mathlib.Omega.{arith}
 use mathlib.Core.Path.{_≡_, refl, sym, ap, subst, _∙_}
-use borrow.Author.Tests.{lt-ltb, le-ltb}
 use mathlib.Core.Logic.{⊎-elim}
-use Rattle.std.proofs.shelf.Tests.{cond-true, cond-false, cases-lt}
+use Rattle.std.proofs.shelf.Tests.{cases-lt}
 use Rattle.stream.specs.Limits.{Within}
 use Rattle.stream.specs.declared.Class.{Class}
 use Rattle.stream.specs.declared.Class.the-variants.{Critical, Background}
 use Rattle.stream.specs.declared.Row.{Row}
 use Rattle.bank.specs.Ceilings.{back, Ceiling}
-
-pub back-before : (f : ℕ → ℕ) (t v : ℕ) → t < v → back f t v ≡ 0
-back-before f t v h = cond-true _ 0 (f (t - v)) (lt-ltb t v h)
-
-pub back-after : (f : ℕ → ℕ) (t v : ℕ) → v ≤ t → back f t v ≡ f (t - v)
-back-after f t v h = cond-false _ 0 (f (t - v)) (le-ltb t v h)
+use Rattle.bank.proofs.Backs.{back-before, back-after}
 
 -- one gap later the ceiling has grown by k
 pub ceiling-repeats : {r : Row} {k : ℕ} {N : ℕ → ℕ} → Ceiling r k N → Within r → (m : ℕ) → N (m + r .gap) ≡ N m + k

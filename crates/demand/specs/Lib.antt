@@ -4,3 +4,4 @@ pub mod Horizons
 pub mod Multiples
 pub mod Watching
 pub mod Verdicts
+pub mod Loads

@@ -13,7 +13,7 @@ use Rattle.stream.specs.declared.Phase.{Phase}
 use Rattle.stream.specs.declared.Phase.the-variants.{Normal, Overrun}
 use Rattle.stream.specs.declared.Point.{Point}
 use Rattle.stream.specs.declared.Refusal.{Refusal}
-use Rattle.stream.specs.declared.Refusal.the-variants.{OutOfShape, TooManyStreams, GapOutOfLimits, DeadlineOutOfLimits, BudgetOutOfLimits, ShortDeadlineOutOfLimits, NoStream, HorizonTooFar, DemandExceeded, MomentTooLate, NoSuchStream, NotOpen}
+use Rattle.stream.specs.declared.Refusal.the-variants.{OutOfShape, TooManyStreams, SporadicAfterRaster, GapOutOfLimits, DeadlineOutOfLimits, BudgetOutOfLimits, ShortDeadlineOutOfLimits, PhaseOutOfLimits, NoStream, HorizonTooFar, DemandExceeded, MomentTooLate, FactorOutOfLimits, NoSuchStream, NotOpen}
 use Rattle.stream.specs.declared.Verdict.{Verdict}
 use Rattle.bank.specs.Kinds.{Kind}
 use Rattle.least.specs.Orders.{point-below}
@@ -71,11 +71,14 @@ Refuses k b TooManyStreams = 32 < k .streams b
 Refuses k b HorizonTooFar = Far k b
 Refuses k b (DemandExceeded v) = Exceeds k b v
 Refuses k b OutOfShape = ⊥
+Refuses k b SporadicAfterRaster = ⊥
 Refuses k b GapOutOfLimits = ⊥
 Refuses k b DeadlineOutOfLimits = ⊥
 Refuses k b BudgetOutOfLimits = ⊥
 Refuses k b ShortDeadlineOutOfLimits = ⊥
+Refuses k b PhaseOutOfLimits = ⊥
 Refuses k b MomentTooLate = ⊥
+Refuses k b FactorOutOfLimits = ⊥
 Refuses k b NoSuchStream = ⊥
 Refuses k b NotOpen = ⊥
 

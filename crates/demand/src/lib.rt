@@ -18,8 +18,11 @@ use stream::Row;
 use stream::Verdict;
 
 mod horizon;
+mod loads;
 mod scan;
 mod shares;
+
+pub use loads::load;
 
 // The most streams that are judged together.
 const MOST_STREAMS: u64 = 32;

@@ -6,6 +6,9 @@ mod tests {
     use bank::most_accepted;
     use demand::admit;
     use demand::demand_at;
+    use demand::load;
+    use join::Joined;
+    use join::JoinedBank;
     use server::replay;
     use std::alloc::Global;
     use std::test::*;
@@ -19,6 +22,11 @@ mod tests {
     use stream::RefusalDebug;
     use stream::RefusalPartialEq;
     use stream::Row;
+    use table::Raster;
+    use table::RasterBank;
+    use table::Shortfall;
+    use table::ShortfallDebug;
+    use table::ShortfallPartialEq;
     use table::Sporadic;
     use table::SporadicBank;
 
@@ -116,6 +124,21 @@ mod tests {
             ),
             ("(go 0)\n", "(refused 9 D (1 0))\n"),
             (
+                "(S H (2 4) (2 6) 6)\n(R L (3 0) (6 6) 6 5)\n(go 0)\n",
+                "(accepted 6 7 (normal 2 0))\n(total 0 0 0 0 0)\n",
+            ),
+            (
+                "(R H (2 4) (2 6) 6 0)\n(S L (3 0) (6 6) 6)\n(go 0)\n",
+                "(refused 3 P (2 0))\n",
+            ),
+            ("(R H (2 4) (2 6) 6 6)\n(go 0)\n", "(refused 8 P (1 0))\n"),
+            ("(R H (2 4) (7 6) 6 6)\n(go 0)\n", "(refused 7 P (1 0))\n"),
+            ("(R H (2 4) (2 6) 6)\n(go 0)\n", "(refused 1 T (1 19))\n"),
+            (
+                "(S H (2 4) (2 6) 6)\n(R L (3 0) (6 6) 6 5)\n(go 0)\n",
+                "(accepted 6 7 (normal 2 0))\n(total 0 0 0 0 0)\n",
+            ),
+            (
                 "(S L (1 0) (2 2) 2)\n(go 1000000000000)\n",
                 "(accepted 2 3 (normal 1 1))\n(total 0 0 0 0 0)\n",
             ),
@@ -207,5 +230,88 @@ mod tests {
             Err(Refusal::TooManyStreams),
         )?;
         check_eq(bank.streams(), 32)
+    }
+
+    #[test]
+    fn a_raster_opens_at_its_phase(rt: LibcRuntime) -> Result<(), Fail> {
+        let mut bank = Raster::new(rt.alloc())?;
+        check_eq(
+            bank.grow(Record::new(LOCK)?, 6),
+            Err(Refusal::PhaseOutOfLimits),
+        )?;
+        bank.grow(Record::new(LOCK)?, 2)?;
+        bank.begin(4294967296);
+        for _ in 0..4 {
+            check_eq(bank.accept(1), Err(Refusal::NotOpen))?;
+            bank.tick();
+        }
+        check_eq(bank.accept(1), Ok(()))?;
+        check_eq(bank.opening(1, 5), Some(0))?;
+        check_eq(bank.opening(1, 6), Some(1))
+    }
+
+    fn full_table(heap: Global) -> Result<Sporadic, Fail> {
+        let mut bank = Sporadic::new(heap)?;
+        for _ in 0..32 {
+            bank.grow(Record::new(PREVIEW)?)?;
+        }
+        Ok(bank)
+    }
+
+    #[test]
+    fn joins_end_at_33_streams(rt: LibcRuntime) -> Result<(), Fail> {
+        let two = Joined::new(full_table(rt.alloc())?, full_table(rt.alloc())?);
+        let mut bank = Joined::new(two, full_table(rt.alloc())?);
+        bank.begin(0);
+        check_eq(bank.streams(), 33)?;
+        check_eq(bank.accept(0), Err(Refusal::NoSuchStream))?;
+        check_eq(bank.accept(33), Ok(()))?;
+        check_eq(bank.accept(33), Err(Refusal::NotOpen))?;
+        check_eq(bank.accept(34), Err(Refusal::NoSuchStream))?;
+        bank.tick();
+        check_eq(bank.opening(33, 5), Some(1))?;
+        check_eq(bank.opening(32, 5), Some(1))?;
+        check_eq(bank.opening(34, 5), None)?;
+        let cases = [
+            (-65536i64, None),
+            (-65535, Some(0u64)),
+            (-1, Some(0)),
+            (0, Some(1)),
+            (1000000, Some(166667)),
+            (1000001, None),
+        ];
+        for (m, told) in cases {
+            check_eq(bank.ceiling(33, m), told)?;
+            check_eq(bank.ceiling(0, m), None)?;
+            check_eq(bank.ceiling(34, m), None)?;
+        }
+        Ok(())
+    }
+
+    fn short_of(bank: &Sporadic, stream: u64) -> u64 {
+        match bank.record_of(stream) {
+            Some(record) => record.row().short,
+            None => 0,
+        }
+    }
+
+    #[test]
+    fn shorter_short_deadlines(rt: LibcRuntime) -> Result<(), Fail> {
+        let mut bank = bank_of_two(rt.alloc())?;
+        check_eq(bank.shorten(0), Err(Shortfall::Factor))?;
+        check_eq(bank.shorten(1001), Err(Shortfall::Factor))?;
+        check_eq(bank.shorten(333), Err(Shortfall::Stream(1)))?;
+        check_eq(bank.shorten(999), Ok(()))?;
+        check_eq((short_of(&bank, 1), short_of(&bank, 2)), (5, 6))
+    }
+
+    #[test]
+    fn load_in_thousandths(rt: LibcRuntime) -> Result<(), Fail> {
+        check_eq(load(&bank_of_two(rt.alloc())?), 833)
+    }
+
+    #[test]
+    fn letters(_rt: LibcRuntime) -> Result<(), Fail> {
+        check_eq((SporadicBank::LETTER, RasterBank::LETTER), ('S', 'R'))
     }
 }

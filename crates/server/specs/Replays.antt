@@ -14,16 +14,16 @@ use Rattle.text.specs.declared.answer.Answer.the-variants.{Accepted, Refused, T
 use Rattle.text.specs.declared.answer.Counts.{Counts}
 use Rattle.server.specs.declared.answers.Answers.{Answers}
 use Rattle.server.specs.declared.answers.Answers.the-variants.{One, Two}
-use Rattle.server.specs.Plans.{Opened}
+use Rattle.server.specs.Plans.{Opened, no-rows}
 
 abbrev pub no-jobs : Counts
 no-jobs = record { accepted = 0; finished = 0; cut = 0; dropped = 0; waiting = 0 }
 
 -- A plan that is refused is answered by its fault. One that is accepted is followed by the counts of its run, where nothing comes after the go line; anything there is out of shape.
 pub data Answered (text : List ℕ) : Answers → Type 0 where
-  refused : {fault : Fault} {rest : List ℕ} {end : ℕ} → Opened text 1 [] (Err fault) rest end → Answered text (One (Refused fault))
-  ended : {verdict : Verdict} {end : ℕ} → Opened text 1 [] (Ok verdict) [] end → Answered text (Two (Accepted verdict) (Total no-jobs))
-  followed : {verdict : Verdict} {rest : List ℕ} {end : ℕ} → Opened text 1 [] (Ok verdict) rest end → (rest ≡ [] → ⊥) → Answered text (Two (Accepted verdict) (Refused (out-of-shape end 1)))
+  refused : {fault : Fault} {rest : List ℕ} {end : ℕ} → Opened text 1 no-rows (Err fault) rest end → Answered text (One (Refused fault))
+  ended : {verdict : Verdict} {end : ℕ} → Opened text 1 no-rows (Ok verdict) [] end → Answered text (Two (Accepted verdict) (Total no-jobs))
+  followed : {verdict : Verdict} {rest : List ℕ} {end : ℕ} → Opened text 1 no-rows (Ok verdict) rest end → (rest ≡ [] → ⊥) → Answered text (Two (Accepted verdict) (Refused (out-of-shape end 1)))
 
 -- each answer in a line of its own
 abbrev pub lines-of : Answers → List ℕ

@@ -4,13 +4,13 @@ ghost use mathlib.Core.Path.{_≡_};
 ghost use mathlib.Core.List.{[], _∷_, _++_};
 ghost use Rattle.std.specs.Of.String.{string-bytes};
 ghost use Rattle.std.specs.Vec.{made};
-ghost use Rattle.table.specs.Sporadics.{states-in};
+ghost use Rattle.server.specs.Plans.{no-rows, rows-in};
 ghost use Rattle.text.specs.Shown.{answer-line};
 ghost use Rattle.server.specs.Replays.{Answered, lines-of};
+use crate::plan::Tables;
 use crate::plan::open_plan;
 use std::alloc::AllocError;
 use std::alloc::Global;
-use table::Sporadic;
 use text::Answer;
 use text::AnswerDisplay;
 use text::Counts;
@@ -43,11 +43,11 @@ impl Answers {
     }
 }
 
-pub(crate) fn answer_to(text: &[u8], bank: &mut Sporadic) -> Answers
-    ensures { λ r. ⌜ (states-in (now (bank .entry)) ≡ [] → Answered (now (text .entry)) r) ⌝ }
+pub(crate) fn answer_to(text: &[u8], tables: Tables) -> Answers
+    ensures { λ r. ⌜ (rows-in tables ≡ no-rows → Answered (now (text .entry)) r) ⌝ }
 {
     let mut reader = Reader::new(text);
-    match open_plan(&mut reader, bank) {
+    match open_plan(&mut reader, tables) {
         Err(fault) => Answers::One(Answer::Refused(fault)),
         Ok(verdict) => match reader.expect_end() {
             Ok(()) => Answers::Two(Answer::Accepted(verdict), Answer::Total(NO_JOBS)),

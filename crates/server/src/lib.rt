@@ -9,8 +9,10 @@ mod answers;
 mod plan;
 
 use answers::answer_to;
+use plan::Tables;
 use std::alloc::AllocError;
 use std::alloc::Global;
+use table::Raster;
 use table::Sporadic;
 
 // The longest text, in bytes, that replay reads.
@@ -20,7 +22,8 @@ pub const LONGEST_TEXT: u64 = 65536;
 pub fn replay(heap: Global, text: &[u8]) -> Result<String, AllocError>
     ensures { λ r. ⌜ made r (λ s. Replayed (now (text .entry)) (string-bytes s)) ⌝ }
 {
-    let mut bank = Sporadic::new(heap)?;
-    let answers = answer_to(text, &mut bank);
+    let sporadic = Sporadic::new(heap)?;
+    let raster = Raster::new(heap)?;
+    let answers = answer_to(text, Tables { sporadic, raster });
     answers.to_text(heap)
 }

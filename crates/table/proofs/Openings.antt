@@ -9,11 +9,12 @@ use Rattle.std.specs.Options.{mapped}
 use Rattle.std.specs.declared.option.Option.{Option}
 use Rattle.std.specs.declared.option.Option.the-variants.{Some, None}
 use Rattle.stream.specs.declared.limits.Record.{Record}
-use Rattle.table.specs.Tables.{state-of, record-of, amount, ceiling-of, opening-of, lowered, closed, Closes}
+use Rattle.table.specs.Phases.{next-wait, turned}
+use Rattle.table.specs.Tables.{state-of, record-of, amount, ceiling-of, opening-of, waiting, lowered, closed, Closes}
 use Rattle.table.specs.Waits.{every, after}
 use Rattle.table.specs.declared.shared.State.{State}
 use Rattle.table.proofs.Tables.{state-of-map, state-of-set-same, state-of-set-other}
-use Rattle.table.proofs.Waits.{every-is-ceiling, waiting-opens-no-more, tick-opens-no-more, release-closes-for-gap, open-waits-for-nothing, open-after-wait}
+use Rattle.table.proofs.Waits.{every-is-ceiling, waiting-opens-no-more, tick-opens-no-more, turn-opens-no-more, release-closes-for-gap, open-waits-for-nothing, open-after-wait}
 
 pub ceiling-lawful : (xs : List State) (i : ℕ) (r : Record) → record-of xs i ≡ Some r → Ceiling (r .row) 1 (ceiling-of xs i)
 ceiling-lawful xs i r e =
@@ -37,14 +38,23 @@ opening-at xs i m s e = ap (λ o. opens o m) e
 pub idle-is-open : (xs : List State) (i : ℕ) (s : State) → state-of xs i ≡ Some s → s .wait ≤ 0 → 0 < opening-of xs i 0
 idle-is-open xs i s is idle = omega (arith, opening-at xs i 0 s is, open-after-wait (s .wait) (s .stream .row .gap) 0 idle)
 
-opens-lowered : (o : Option State) (m : ℕ) → opens (mapped lowered o) m ≤ opens o (m + 1)
-opens-lowered None m = omega arith
-opens-lowered (Some s) m = tick-opens-no-more (s .wait) (s .stream .row .gap) m (s .stream .within .0 .0)
+-- a change of the waits that opens no state more than a moment later opens no stream more
+waits-open-no-more : (wait : State → ℕ) → ((s : State) (m : ℕ) → after (wait s) (s .stream .row .gap) m ≤ after (s .wait) (s .stream .row .gap) (m + 1)) → (xs ys : List State) (i m : ℕ) → ys ≡ map (λ s. waiting (wait s) s) xs → opening-of ys i m ≤ opening-of xs i (m + 1)
+waits-open-no-more wait no-more xs ys i m e =
+    let P : Option State → Type 0 = λ o. opens o m ≤ opening-of xs i (m + 1) in
+    subst P (sym (ap (λ zs. state-of zs i) e ∙ state-of-map (λ s. waiting (wait s) s) xs i)) (each (state-of xs i))
+  where
+    each : (o : Option State) → opens (mapped (λ s. waiting (wait s) s) o) m ≤ opens o (m + 1)
+    each None = omega arith
+    each (Some s) = no-more s m
 
 pub lowered-opens-no-more : (xs ys : List State) (i m : ℕ) → ys ≡ map lowered xs → opening-of ys i m ≤ opening-of xs i (m + 1)
 lowered-opens-no-more xs ys i m e =
-    let P : Option State → Type 0 = λ o. opens o m ≤ opening-of xs i (m + 1) in
-    subst P (sym (ap (λ zs. state-of zs i) e ∙ state-of-map lowered xs i)) (opens-lowered (state-of xs i) m)
+    waits-open-no-more (λ s. s .wait - 1) (λ s m. tick-opens-no-more (s .wait) (s .stream .row .gap) m (s .stream .within .0 .0)) xs ys i m e
+
+pub turned-opens-no-more : (xs ys : List State) (i m : ℕ) → ys ≡ map turned xs → opening-of ys i m ≤ opening-of xs i (m + 1)
+turned-opens-no-more xs ys i m e =
+    waits-open-no-more (λ s. next-wait (s .wait) (s .stream .row .gap)) (λ s m. turn-opens-no-more (s .wait) (s .stream .row .gap) m (s .stream .within .0 .0)) xs ys i m e
 
 pub closing-takes-one : (xs ys : List State) (i m : ℕ) → Closes xs i ys → 0 < opening-of xs i 0 → opening-of ys i m + 1 ≤ opening-of xs i m
 closing-takes-one xs ys i m (s, is, e) free =

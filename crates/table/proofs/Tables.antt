@@ -3,8 +3,8 @@
 use Prim.Native.Nat.{ℕ, zero, suc, _-_, _≤_, _<_}
 use native.Mathlib.Omega.{arith}
 use lib.ListN.{length, getD, set}
-use mathlib.Core.Bool.{Bool, true, cond}
-use mathlib.Core.List.{List, [], _∷_, map}
+use mathlib.Core.Bool.{Bool, true, false, cond}
+use mathlib.Core.List.{List, [], _∷_, _++_, map}
 use mathlib.Core.Logic.{⊎-elim, _≢_}
 use mathlib.Core.Path.{_≡_, refl, sym, ap, subst, _∙_}
 use Rattle.std.proofs.shelf.Lists.{getD-set-same, length-set}
@@ -21,7 +21,7 @@ use Rattle.table.specs.declared.shared.State.{State}
 pub none-not-some : {X : Type 0} (x : X) → None ≡ Some x → ⊥
 none-not-some x e = let z : _≡_ {A = ℕ} 0 1 = cc in omega arith
 
-some-injective : {X : Type 0} (x y : X) → Some x ≡ Some y → x ≡ y
+pub some-injective : {X : Type 0} (x y : X) → Some x ≡ Some y → x ≡ y
 some-injective x y e = cc
 
 is-some-mapped : {X Y : Type 0} (f : X → Y) (o : Option X) → isSome (mapped f o) ≡ isSome o
@@ -38,17 +38,26 @@ nth-some [] i h = let z : ⊥ = omega arith in absurd z
 nth-some (x ∷ xs) zero h = refl
 nth-some (x ∷ xs) (suc i) h = nth-some xs i (omega arith)
 
-nth-set-same : {X : Type 0} (xs : List X) (i : ℕ) (y : X) → i < length xs → nth (set xs i y) i ≡ Some y
+pub nth-set-same : {X : Type 0} (xs : List X) (i : ℕ) (y : X) → i < length xs → nth (set xs i y) i ≡ Some y
 nth-set-same xs i y h =
     let long : i < length (set xs i y) = simp length-set h in
     nth-getD (set xs i y) i y long ∙ ap Some (getD-set-same xs i y y h)
 
-nth-set-other : {X : Type 0} (xs : List X) (i j : ℕ) (y : X) → j ≢ i → nth (set xs i y) j ≡ nth xs j
+pub nth-set-other : {X : Type 0} (xs : List X) (i j : ℕ) (y : X) → j ≢ i → nth (set xs i y) j ≡ nth xs j
 nth-set-other [] i j y ne = refl
 nth-set-other (x ∷ xs) zero zero y ne = absurd (ne refl)
 nth-set-other (x ∷ xs) zero (suc j) y ne = refl
 nth-set-other (x ∷ xs) (suc i) zero y ne = refl
 nth-set-other (x ∷ xs) (suc i) (suc j) y ne = nth-set-other xs i j y (λ e. ne (ap suc e))
+
+pub nth-push-front : {X : Type 0} (xs : List X) (y : X) (i : ℕ) → i < length xs → nth (xs ++ y ∷ []) i ≡ nth xs i
+nth-push-front [] y i h = let z : ⊥ = omega arith in absurd z
+nth-push-front (x ∷ xs) y zero h = refl
+nth-push-front (x ∷ xs) y (suc i) h = nth-push-front xs y i (omega arith)
+
+pub nth-push-last : {X : Type 0} (xs : List X) (y : X) → nth (xs ++ y ∷ []) (length xs) ≡ Some y
+nth-push-last [] y = refl
+nth-push-last (x ∷ xs) y = nth-push-last xs y
 
 pub state-at : (xs : List State) (i : ℕ) → 1 ≤ i → state-of xs i ≡ nth xs (i - 1)
 state-at xs i h = ap (λ (b : Bool). cond b None (nth xs (i - 1))) (ne-eqb i 0 (λ e. omega arith))
@@ -78,6 +87,20 @@ record-numbered xs i r e = numbered (state-of xs i) refl e
     numbered : (o : Option State) → state-of xs i ≡ o → mapped (λ s. s .stream) o ≡ Some r → (1 ≤ i) × (i ≤ length xs)
     numbered None is e = absurd (none-not-some r e)
     numbered (Some s) is e = state-numbered xs i s is
+
+-- as many streams have the same numbers
+pub state-unnumbered : (xs ys : List State) (i : ℕ) → length ys ≡ length xs → state-of xs i ≡ None → state-of ys i ≡ None
+state-unnumbered xs ys i size none = unnumbered (state-of ys i) refl
+  where
+    unnumbered : (o : Option State) → state-of ys i ≡ o → state-of ys i ≡ None
+    unnumbered None is = is
+    unnumbered (Some s) is =
+        let at = state-numbered ys i s is in
+        let listed : isSome (record-of xs i) ≡ true = record-listed xs i (at .0) (omega arith) in
+        let absent : isSome (record-of xs i) ≡ false = ap (λ o. isSome (mapped (λ s. s .stream) o)) none in
+        let z : _≡_ {A = ℕ} 0 1 = cc in
+        let f : ⊥ = omega arith in
+        absurd f
 
 pub state-read : (xs : List State) (i : ℕ) (s x : State) → x ≡ getD xs (i - 1) x → state-of xs i ≡ Some s → x ≡ s
 state-read xs i s x is e =

@@ -5,11 +5,12 @@ use native.Mathlib.Nat.{add-div-right, div-eq-of-lt, le-div-iff-mul-le, div-mul-
 use native.Mathlib.Omega.{arith}
 use mathlib.Core.Bool.{Bool, cond}
 use mathlib.Core.Logic.{⊎-elim}
-use mathlib.Core.Path.{_≡_, ap}
+use mathlib.Core.Path.{_≡_, sym, ap, subst}
 use Rattle.bank.specs.Ceilings.{Ceiling, back}
-use Rattle.std.proofs.shelf.Tests.{cases-lt, lt-ltb, le-ltb}
+use Rattle.std.proofs.shelf.Tests.{cases-lt, lt-ltb, le-ltb, cases-eq, eq-eqb, ne-eqb}
 use Rattle.stream.specs.Limits.{GapFits, DeadlineFits}
 use Rattle.stream.specs.declared.Row.{Row}
+use Rattle.table.specs.Phases.{next-wait}
 use Rattle.table.specs.Waits.{every, after}
 
 -- f set back by v is 0 below v, and from there on f
@@ -67,6 +68,20 @@ tick-opens-no-more wait gap m pos =
     (λ (from : wait - 1 ≤ m).
     omega (arith, back-from (every gap) m (wait - 1) from, back-from (every gap) (m + 1) wait (omega arith), every-rises gap (m - (wait - 1)) (m + 1 - wait) pos (omega arith)))
     (cases-lt m (wait - 1))
+
+-- on a raster an open stream opens again a gap later
+pub turn-opens-no-more : (wait gap m : ℕ) → 0 < gap → after (next-wait wait gap) gap m ≤ after wait gap (m + 1)
+turn-opens-no-more wait gap m pos =
+    let P : ℕ → Type 0 = λ next. after next gap m ≤ after wait gap (m + 1) in
+    ⊎-elim
+    (λ (open-now : wait ≡ 0).
+    let next : next-wait wait gap ≡ gap - 1 = ap (λ (b : Bool). cond b (gap - 1) (wait - 1)) (eq-eqb wait 0 open-now) in
+    let no-more : after (gap - 1) gap m ≤ after wait gap (m + 1) = omega (arith, waiting-opens-no-more (gap - 1) gap m pos, every-rises gap m (m + 1 - wait) pos (omega arith), back-from (every gap) (m + 1) wait (omega arith)) in
+    subst P (sym next) no-more)
+    (λ (waits : wait ≡ 0 → ⊥).
+    let next : next-wait wait gap ≡ wait - 1 = ap (λ (b : Bool). cond b (gap - 1) (wait - 1)) (ne-eqb wait 0 waits) in
+    subst P (sym next) (tick-opens-no-more wait gap m pos))
+    (cases-eq wait 0)
 
 pub release-closes-for-gap : (gap m : ℕ) → 0 < gap → after gap gap m + 1 ≤ after 0 gap m
 release-closes-for-gap gap m pos =

@@ -8,13 +8,23 @@ ghost use Rattle.bank.specs.Questions.{asked, told};
 ghost use Rattle.std.specs.Of.Vec.{vec-cap};
 ghost use Rattle.std.specs.Options.{mapped};
 ghost use Rattle.std.specs.Vec.{made};
-ghost use Rattle.std.specs.declared.option.Option.the-variants.{Some};
+ghost use Rattle.std.specs.declared.option.Option.the-variants.{None, Some};
+ghost use Rattle.table.specs.Phases.{Aligned, Phased, turned};
+ghost use Rattle.table.specs.Shortening.{AllShortened, shortfall-of};
 ghost use Rattle.table.specs.Tables.{SameSize, ceiling-of, fresh, lowered, opened, opening-of, record-of, state-of, states-of, waiting};
+use crate::moments::first_wait;
+use crate::moments::wait_after;
+use crate::shortening::Shortfall;
+use crate::shortening::shorten_record;
+use crate::shortening::shorten_row;
 use bank::Question;
 use bank::ask;
 use std::alloc::AllocError;
 use std::alloc::Global;
 use stream::Record;
+
+// The most streams of a table that grows.
+pub(crate) const MOST: usize = 32;
 
 // A stream and how many ticks it stays closed.
 #[derive(Clone, Copy)]
@@ -113,6 +123,57 @@ impl Table {
     {
         for state in self.states.iter_mut() {
             state.wait = state.wait.saturating_sub(1);
+        }
+    }
+
+    // Makes each stream wait for the first moment of its phase.
+    pub(crate) fn align(&mut self, phases: &[u64], moment: u64)
+        requires room { ⌜ length (states-of (now self)) ≤ length (now phases) ⌝ }
+        requires phased { ⌜ Phased (now phases) (states-of (now self)) ⌝ }
+        ensures states { λ _. ⌜ Aligned moment (now (phases .entry)) (states-of (now (self .entry))) (states-of (now (self .exit))) ⌝ }
+        ensures size { λ _. ⌜ SameSize (now (self .entry)) (now (self .exit)) ⌝ }
+    {
+        let mut at = 0;
+        for state in self.states.iter_mut() {
+            state.wait = first_wait(moment, state.stream.row().gap, phases[at]);
+            at += 1;
+        }
+    }
+
+    pub(crate) fn turn_all(&mut self)
+        ensures states { λ _. ⌜ states-of (now (self .exit)) ≡ map turned (states-of (now (self .entry))) ⌝ }
+        ensures size { λ _. ⌜ SameSize (now (self .entry)) (now (self .exit)) ⌝ }
+    {
+        for state in self.states.iter_mut() {
+            state.wait = wait_after(state.wait, state.stream.row().gap);
+        }
+    }
+
+    // Why the streams cannot be shortened by the factor, if they cannot.
+    pub(crate) fn falls_short(&self, factor: u64) -> Option<Shortfall>
+        ensures { λ r. ⌜ r ≡ shortfall-of factor (states-of (now (self .entry))) ⌝ }
+    {
+        if factor < 1 || factor > 1000 {
+            return Some(Shortfall::Factor);
+        }
+        let mut stream = 1;
+        for state in self.states.iter() {
+            let row = state.stream.row();
+            if shorten_row(row, factor).short < row.budget {
+                return Some(Shortfall::Stream(stream));
+            }
+            stream += 1;
+        }
+        None
+    }
+
+    pub(crate) fn shorten_all(&mut self, factor: u64)
+        requires { ⌜ shortfall-of factor (states-of (now self)) ≡ None ⌝ }
+        ensures states { λ _. ⌜ AllShortened factor (states-of (now (self .entry))) (states-of (now (self .exit))) ⌝ }
+        ensures size { λ _. ⌜ SameSize (now (self .entry)) (now (self .exit)) ⌝ }
+    {
+        for state in self.states.iter_mut() {
+            state.stream = shorten_record(state.stream, factor);
         }
     }
 }

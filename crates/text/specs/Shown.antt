@@ -9,7 +9,7 @@ use Rattle.stream.specs.declared.Phase.{Phase}
 use Rattle.stream.specs.declared.Phase.the-variants.{Normal, Overrun}
 use Rattle.stream.specs.declared.Point.{Point}
 use Rattle.stream.specs.declared.Refusal.{Refusal}
-use Rattle.stream.specs.declared.Refusal.the-variants.{OutOfShape, TooManyStreams, GapOutOfLimits, DeadlineOutOfLimits, BudgetOutOfLimits, ShortDeadlineOutOfLimits, NoStream, HorizonTooFar, DemandExceeded, MomentTooLate, NoSuchStream, NotOpen}
+use Rattle.stream.specs.declared.Refusal.the-variants.{OutOfShape, TooManyStreams, SporadicAfterRaster, GapOutOfLimits, DeadlineOutOfLimits, BudgetOutOfLimits, ShortDeadlineOutOfLimits, PhaseOutOfLimits, NoStream, HorizonTooFar, DemandExceeded, MomentTooLate, FactorOutOfLimits, NoSuchStream, NotOpen}
 use Rattle.text.specs.declared.answer.Answer.{Answer}
 use Rattle.text.specs.declared.answer.Answer.the-variants.{Accepted, Refused, Total}
 
@@ -26,14 +26,17 @@ point-line p =
 abbrev pub decisive : Refusal → List ℕ
 decisive OutOfShape = []
 decisive TooManyStreams = []
+decisive SporadicAfterRaster = []
 decisive GapOutOfLimits = []
 decisive DeadlineOutOfLimits = []
 decisive BudgetOutOfLimits = []
 decisive ShortDeadlineOutOfLimits = []
+decisive PhaseOutOfLimits = []
 decisive NoStream = []
 decisive HorizonTooFar = []
 decisive (DemandExceeded verdict) = codes " " ++ point-line (verdict .point)
 decisive MomentTooLate = []
+decisive FactorOutOfLimits = []
 decisive NoSuchStream = []
 decisive NotOpen = []
 

@@ -6,6 +6,8 @@ use stream::Row;
 pub enum Line {
     // a stream whose releases keep a least distance
     Sporadic(Row),
-    // time goes on to this moment
+    // a stream whose releases lie on a raster of moments, with its phase
+    Raster(Row, u64),
+    // the plan ends, and a run would start at this moment
     Go(u64),
 }

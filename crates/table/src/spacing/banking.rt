@@ -4,16 +4,17 @@ ghost use mathlib.Core.List.{[]};
 ghost use mathlib.Core.Path.{_≡_};
 ghost use Rattle.std.specs.Vec.{made};
 ghost use Rattle.table.specs.Growing.{Grown};
+ghost use Rattle.table.specs.Shortening.{AllShortened, Shortening};
 ghost use Rattle.table.specs.Sporadics.{sporadic, states-in};
 use crate::Sporadic;
+use crate::shared::MOST;
 use crate::shared::Table;
+use crate::shortening::Shortfall;
 use bank::Bank;
 use std::alloc::AllocError;
 use std::alloc::Global;
 use stream::Record;
 use stream::Refusal;
-
-const MOST: usize = 32;
 
 impl Sporadic {
     pub fn new(heap: Global) -> Result<Sporadic, AllocError>
@@ -31,6 +32,17 @@ impl Sporadic {
             return Err(Refusal::TooManyStreams);
         }
         self.table.push(stream);
+        Ok(())
+    }
+
+    // Gives every critical stream a short deadline of so many thousandths of its deadline, if none would be below its budget.
+    pub fn shorten(&mut self, factor: u64) -> Result<(), Shortfall>
+        ensures { λ r. ⌜ Shortening factor (states-in (now (self .entry))) r (now (self .exit) ≡ now (self .entry)) (AllShortened factor (states-in (now (self .entry))) (states-in (now (self .exit)))) ⌝ }
+    {
+        if let Some(why) = self.table.falls_short(factor) {
+            return Err(why);
+        }
+        self.table.shorten_all(factor);
         Ok(())
     }
 }

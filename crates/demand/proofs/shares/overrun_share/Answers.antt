@@ -9,7 +9,8 @@ use Rattle.demand.specs.Watching.{Flat, moved}
 use Rattle.demand.proofs.Listing.{listed-within, listed-ceiling, asked-product}
 use Rattle.demand.proofs.Plateaus.{plateau-share, share-before-slack, share-of-background}
 use Rattle.demand.proofs.Watches.{flat-now, flat-seen, watched-early}
-use Rattle.demand.proofs.Widths.{certain-fits, back-after}
+use Rattle.bank.proofs.Backs.{back-after}
+use Rattle.demand.proofs.Widths.{certain-fits}
 use Rattle.demand.proofs.shares.overrun_share.Needs as need
 
 pub returns-in-Background : need.returns-in-Background

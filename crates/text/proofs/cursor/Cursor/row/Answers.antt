@@ -1,26 +1,21 @@
 use lib.Chars.{codes}
 use lib.Dec.{lit<}
 use Rattle.std.proofs.shelf.Results.{err-from-errBy}
-use Rattle.text.proofs.Grammar.{FromGap, FromDeadline, FromShort, FromCertain, some-gap, some-deadline, some-short, some-certain, at-kind, at-class, at-bracket, after-bracket, at-field, after-field, row-whole}
+use Rattle.text.proofs.Grammar.{FromDeadline, FromShort, FromCertain, some-gap, some-deadline, some-short, some-certain, at-class, at-bracket, after-bracket, at-field, after-field, row-whole}
+use Rattle.text.proofs.Numerals.{Field}
 use Rattle.text.proofs.cursor.Cursor.row.Needs as need
-
-pub returns-in-Break-word : need.returns-in-Break-word
-returns-in-Break-word c =
-    let p = err-from-errBy (c .from-residual .result) (c .from-residual .ensures .1) in
-    let s = c .in-Break-word .ensures tt in
-    rw (p .1, p .2) (record { left = s .left; leaves = (at-kind _ _ (s .leaves)); place = s .place })
 
 pub returns-in-Break-class : need.returns-in-Break-class
 returns-in-Break-class c =
-    let p = err-from-errBy (c .from-residual-in-Break-class .result) (c .from-residual-in-Break-class .ensures .1) in
+    let p = err-from-errBy (c .from-residual .result) (c .from-residual .ensures .1) in
     let s = c .in-Break-class .ensures tt in
-    rw (p .1, p .2) (record { left = s .left; leaves = (at-class _ _ _ (c .in-Continue-word .ensures tt) (s .leaves)); place = s .place })
+    rw (p .1, p .2) (record { left = s .left; leaves = at-class (c .args .close .now) _ _ (s .leaves); place = s .place })
 
-pub returns-in-Break-word-2 : need.returns-in-Break-word-2
-returns-in-Break-word-2 c =
-    let p = err-from-errBy (c .from-residual-in-Break-word-2 .result) (c .from-residual-in-Break-word-2 .ensures .1) in
-    let s = c .in-Break-word-2 .ensures tt in
-    rw (p .1, p .2) (record { left = s .left; leaves = (at-bracket _ _ _ _ _ (c .in-Continue-word .ensures tt) (c .in-Continue-class .ensures tt) (s .leaves)); place = s .place })
+pub returns-in-Break-word : need.returns-in-Break-word
+returns-in-Break-word c =
+    let p = err-from-errBy (c .from-residual-in-Break-word .result) (c .from-residual-in-Break-word .ensures .1) in
+    let s = c .in-Break-word .ensures tt in
+    rw (p .1, p .2) (record { left = s .left; leaves = at-bracket (c .args .close .now) _ _ _ _ (c .in-Continue-class .ensures tt) (s .leaves); place = s .place })
 
 pub returns-in-Break-budget : need.returns-in-Break-budget
 returns-in-Break-budget c =
@@ -28,8 +23,8 @@ returns-in-Break-budget c =
     let s = c .in-Break-budget .ensures tt in
     rw (p .1, p .2) (record {
       left = s .left;
-      leaves = (after-bracket _ _ _ _ _ _ (c .in-Continue-word .ensures tt) (c .in-Continue-class .ensures tt) (c .in-Continue-word-2 .ensures tt)
-          (at-field FromCertain (codes " ") _ _ (lit< tt) some-certain (s .leaves)));
+      leaves = after-bracket (c .args .close .now) _ _ _ _ _ (c .in-Continue-class .ensures tt) (c .in-Continue-word .ensures tt)
+          (at-field (FromCertain (c .args .close .now)) (codes " ") _ _ (lit< tt) (some-certain (c .args .close .now)) (s .leaves));
       place = s .place;
     })
 
@@ -39,9 +34,9 @@ returns-in-Break-certain c =
     let s = c .in-Break-certain .ensures tt in
     rw (p .1, p .2) (record {
       left = s .left;
-      leaves = (after-bracket _ _ _ _ _ _ (c .in-Continue-word .ensures tt) (c .in-Continue-class .ensures tt) (c .in-Continue-word-2 .ensures tt)
-          (after-field FromCertain (codes " ") _ _ _ _ (lit< tt) (c .in-Continue-budget .ensures tt)
-          (at-field FromShort (codes ") (") _ _ (lit< tt) some-short (s .leaves))));
+      leaves = after-bracket (c .args .close .now) _ _ _ _ _ (c .in-Continue-class .ensures tt) (c .in-Continue-word .ensures tt)
+          (after-field (FromCertain (c .args .close .now)) (codes " ") _ _ _ _ (lit< tt) (c .in-Continue-budget .ensures tt)
+          (at-field (FromShort (c .args .close .now)) (codes ") (") _ _ (lit< tt) (some-short (c .args .close .now)) (s .leaves)));
       place = s .place;
     })
 
@@ -51,10 +46,10 @@ returns-in-Break-short c =
     let s = c .in-Break-short .ensures tt in
     rw (p .1, p .2) (record {
       left = s .left;
-      leaves = (after-bracket _ _ _ _ _ _ (c .in-Continue-word .ensures tt) (c .in-Continue-class .ensures tt) (c .in-Continue-word-2 .ensures tt)
-          (after-field FromCertain (codes " ") _ _ _ _ (lit< tt) (c .in-Continue-budget .ensures tt)
-          (after-field FromShort (codes ") (") _ _ _ _ (lit< tt) (c .in-Continue-certain .ensures tt)
-          (at-field FromDeadline (codes " ") _ _ (lit< tt) some-deadline (s .leaves)))));
+      leaves = after-bracket (c .args .close .now) _ _ _ _ _ (c .in-Continue-class .ensures tt) (c .in-Continue-word .ensures tt)
+          (after-field (FromCertain (c .args .close .now)) (codes " ") _ _ _ _ (lit< tt) (c .in-Continue-budget .ensures tt)
+          (after-field (FromShort (c .args .close .now)) (codes ") (") _ _ _ _ (lit< tt) (c .in-Continue-certain .ensures tt)
+          (at-field (FromDeadline (c .args .close .now)) (codes " ") _ _ (lit< tt) (some-deadline (c .args .close .now)) (s .leaves))));
       place = s .place;
     })
 
@@ -64,11 +59,11 @@ returns-in-Break-deadline c =
     let s = c .in-Break-deadline .ensures tt in
     rw (p .1, p .2) (record {
       left = s .left;
-      leaves = (after-bracket _ _ _ _ _ _ (c .in-Continue-word .ensures tt) (c .in-Continue-class .ensures tt) (c .in-Continue-word-2 .ensures tt)
-          (after-field FromCertain (codes " ") _ _ _ _ (lit< tt) (c .in-Continue-budget .ensures tt)
-          (after-field FromShort (codes ") (") _ _ _ _ (lit< tt) (c .in-Continue-certain .ensures tt)
-          (after-field FromDeadline (codes " ") _ _ _ _ (lit< tt) (c .in-Continue-short .ensures tt)
-          (at-field FromGap (codes ") ") _ _ (lit< tt) some-gap (s .leaves))))));
+      leaves = after-bracket (c .args .close .now) _ _ _ _ _ (c .in-Continue-class .ensures tt) (c .in-Continue-word .ensures tt)
+          (after-field (FromCertain (c .args .close .now)) (codes " ") _ _ _ _ (lit< tt) (c .in-Continue-budget .ensures tt)
+          (after-field (FromShort (c .args .close .now)) (codes ") (") _ _ _ _ (lit< tt) (c .in-Continue-certain .ensures tt)
+          (after-field (FromDeadline (c .args .close .now)) (codes " ") _ _ _ _ (lit< tt) (c .in-Continue-short .ensures tt)
+          (at-field (Field (c .args .close .now)) (codes ") ") _ _ (lit< tt) (some-gap (c .args .close .now)) (s .leaves)))));
       place = s .place;
     })
 
@@ -78,12 +73,12 @@ returns-in-Break-gap c =
     let s = c .in-Break-gap .ensures tt in
     rw (p .1, p .2) (record {
       left = s .left;
-      leaves = (after-bracket _ _ _ _ _ _ (c .in-Continue-word .ensures tt) (c .in-Continue-class .ensures tt) (c .in-Continue-word-2 .ensures tt)
-          (after-field FromCertain (codes " ") _ _ _ _ (lit< tt) (c .in-Continue-budget .ensures tt)
-          (after-field FromShort (codes ") (") _ _ _ _ (lit< tt) (c .in-Continue-certain .ensures tt)
-          (after-field FromDeadline (codes " ") _ _ _ _ (lit< tt) (c .in-Continue-short .ensures tt)
-          (after-field FromGap (codes ") ") _ _ _ _ (lit< tt) (c .in-Continue-deadline .ensures tt)
-          (s .leaves))))));
+      leaves = after-bracket (c .args .close .now) _ _ _ _ _ (c .in-Continue-class .ensures tt) (c .in-Continue-word .ensures tt)
+          (after-field (FromCertain (c .args .close .now)) (codes " ") _ _ _ _ (lit< tt) (c .in-Continue-budget .ensures tt)
+          (after-field (FromShort (c .args .close .now)) (codes ") (") _ _ _ _ (lit< tt) (c .in-Continue-certain .ensures tt)
+          (after-field (FromDeadline (c .args .close .now)) (codes " ") _ _ _ _ (lit< tt) (c .in-Continue-short .ensures tt)
+          (after-field (Field (c .args .close .now)) (codes ") ") _ _ _ _ (lit< tt) (c .in-Continue-deadline .ensures tt)
+          (s .leaves)))));
       place = s .place;
     })
 
@@ -95,5 +90,5 @@ returns c =
     let deadline = c .in-Continue-deadline .ensures tt in
     let gap = c .in-Continue-gap .ensures tt in (
       (budget .0, certain .0, short .0, deadline .0, gap .0),
-      row-whole _ _ _ _ _ _ _ _ _ _ (c .in-Continue-word .ensures tt) (c .in-Continue-class .ensures tt) (c .in-Continue-word-2 .ensures tt) (budget .1) (certain .1) (short .1) (deadline .1) (gap .1),
+      row-whole (c .args .close .now) _ _ _ _ _ _ _ _ _ (c .in-Continue-class .ensures tt) (c .in-Continue-word .ensures tt) (budget .1) (certain .1) (short .1) (deadline .1) (gap .1),
     )

@@ -5,7 +5,7 @@ use native.Mathlib.Omega.{arith}
 use Rattle.std.specs.declared.result.Result.the-variants.{Ok}
 use Rattle.std.proofs.shelf.Results.{err-from-errBy}
 use Rattle.text.specs.declared.line.Line.{Line}
-use Rattle.text.specs.declared.line.Line.the-variants.{Sporadic, Go}
+use Rattle.text.specs.declared.line.Line.the-variants.{Sporadic, Raster, Go}
 use Rattle.text.specs.Lines.{render, LineForm}
 use Rattle.text.specs.Places.{out-of-shape}
 use Rattle.text.specs.Reader.{bytes-left}
@@ -16,6 +16,7 @@ use Rattle.text.proofs.reader.Reader.next_line.Needs as need
 
 render-some : (line : Line) → 0 < length (render line)
 render-some (Sporadic row) = omega arith
+render-some (Raster row phase) = omega arith
 render-some (Go moment) = omega arith
 
 -- a line that is read makes room for its number

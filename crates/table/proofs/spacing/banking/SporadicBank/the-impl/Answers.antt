@@ -1,35 +1,21 @@
-use Prim.Native.Nat.{ℕ, _-_}
+use Prim.Native.Nat.{_-_}
 use native.Mathlib.Omega.{arith}
-use lib.ListN.{length}
-use mathlib.Core.List.{map}
-use mathlib.Core.Path.{_≡_, refl, ap, _∙_}
+use mathlib.Core.Path.{refl}
 use Rattle.bank.specs.Laws.{Same}
-use Rattle.std.proofs.shelf.Lists.{length-map, length-set}
 use Rattle.table.specs.Sporadics.{sporadic, states-in}
-use Rattle.table.specs.Tables.{record-of, amount, waiting, closed, Closes}
-use Rattle.table.specs.Waits.{every}
-use Rattle.table.specs.declared.shared.State.{State}
 use Rattle.table.specs.declared.spacing.Sporadic.{Sporadic}
+use Rattle.table.proofs.Keeping.{Keeps, ceiling-kept, waits-keep, closing-keeps}
 use Rattle.table.proofs.Openings.{ceiling-lawful, opening-within-ceiling, lowered-opens-no-more, closing-takes-one, closing-leaves-others}
-use Rattle.table.proofs.Tables.{record-listed, record-numbered, record-of-map, record-of-set}
+use Rattle.table.proofs.Tables.{record-listed, record-numbered}
 use Rattle.table.proofs.spacing.banking.SporadicBank.the-impl.Needs as need
 
-same-streams : (b c : Sporadic) → length (states-in c) ≡ length (states-in b) → ((i : ℕ) → record-of (states-in c) i ≡ record-of (states-in b) i) → Same sporadic b c
-same-streams b c long records = record {
-  streams = long;
-  records = records;
+same-streams : (b c : Sporadic) → Keeps (states-in b) (states-in c) → Same sporadic b c
+same-streams b c keeps = record {
+  streams = keeps .size;
+  records = keeps .records;
   count = λ i. refl;
-  ceiling = λ i m. ap (λ o. amount o (λ r. every (r .row .gap) m)) (records i);
+  ceiling = ceiling-kept (states-in b) (states-in c) keeps;
 }
-
--- other waits, and the same streams
-waits-keep : (wait : State → ℕ) (b c : Sporadic) → states-in c ≡ map (λ s. waiting (wait s) s) (states-in b) → Same sporadic b c
-waits-keep wait b c e =
-    same-streams b c (ap length e ∙ length-map (states-in b) (λ s. waiting (wait s) s)) (λ i. ap (λ xs. record-of xs i) e ∙ record-of-map wait (states-in b) i)
-
-closing-keeps : (b c : Sporadic) (i : ℕ) → Closes (states-in b) i (states-in c) → Same sporadic b c
-closing-keeps b c i (s, is, e) =
-    same-streams b c (ap length e ∙ length-set (states-in b) (i - 1) (closed s)) (λ j. ap (λ xs. record-of xs j) e ∙ record-of-set (s .stream .row .gap) (states-in b) i j s is)
 
 pub lawful-law : need.lawful-law
 lawful-law = record {
@@ -37,9 +23,9 @@ lawful-law = record {
   listed = λ b i some within. record-listed (states-in b) i some within;
   numbered = λ b i r e. record-numbered (states-in b) i r e;
   ceilings = λ b i r e. ceiling-lawful (states-in b) i r e;
-  begin-keeps = λ b c moment e. waits-keep (λ s. 0) b c e;
-  tick-keeps = λ b c e. waits-keep (λ s. s .wait - 1) b c e;
-  accept-keeps = λ b c i a. closing-keeps b c i a;
+  begin-keeps = λ b c moment e. same-streams b c (waits-keep (λ s. 0) (states-in b) (states-in c) e);
+  tick-keeps = λ b c e. same-streams b c (waits-keep (λ s. s .wait - 1) (states-in b) (states-in c) e);
+  accept-keeps = λ b c i a. same-streams b c (closing-keeps (states-in b) (states-in c) i a);
   begin-begins = λ b c moment e. tt;
   tick-begun = λ b c g e. tt;
   accept-begun = λ b c i g a. tt;
