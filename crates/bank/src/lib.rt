@@ -1,5 +1,7 @@
 // The bank: a set of streams behind one interface, and what holds of every bank.
 
+#![tactic(auto)]
+
 ghost use Rattle.std.specs.Prelude.{◌≡◌, ℕ, true, false, Some, None};
 ghost use Rattle.stream.specs.declared.limits.Record.{Record as Rec};
 ghost use Rattle.bank.specs.Accepting.{Accepted};
@@ -81,8 +83,8 @@ pub trait Bank {
 
 // The most releases of a stream that can be accepted in so many consecutive moments, whatever the acts from begin on.
 pub fn most_accepted<B: Bank>(bank: &B, stream: u64, moments: u64) -> Option<u64>
-    ensures value { result ≡ told (kind.records bank.now stream) (kind.ceiling bank.now stream) (spanned moments) }
-    ensures bound { (most : ℕ) → result ≡ Some most → AtMost kind bank.now stream moments most }
+    ensures value { result ≡ told (B.kind.records bank.now stream) (B.kind.ceiling bank.now stream) (spanned moments) }
+    ensures bound { (most : ℕ) → result ≡ Some most → AtMost B.kind bank.now stream moments most }
 {
     if moments > MOMENTS {
         return None;
@@ -92,8 +94,8 @@ pub fn most_accepted<B: Bank>(bank: &B, stream: u64, moments: u64) -> Option<u64
 
 // Whether a stream exists. If so, all that is asked of a bank holds of it, said over whole numbers.
 pub fn has_stream<B: Bank>(bank: &B, stream: u64) -> bool
-    ensures there { result ≡ true → (rec : Rec) × (kind.records bank.now stream ≡ Some rec) × Rules kind bank.now stream rec }
-    ensures absent { result ≡ false → kind.records bank.now stream ≡ None }
+    ensures there { result ≡ true → (rec : Rec) × (B.kind.records bank.now stream ≡ Some rec) × Rules B.kind bank.now stream rec }
+    ensures absent { result ≡ false → B.kind.records bank.now stream ≡ None }
 {
     match bank.record_of(stream) {
         Some(_) => true,

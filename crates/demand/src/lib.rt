@@ -1,5 +1,7 @@
 // Demand at a length of time, and the admission of a bank by it: it may run if no length is exceeded by the normal or the overrun demand.
 
+#![tactic(auto)]
+
 ghost use Rattle.std.specs.Prelude.{◌≡◌, ◌≤◌, MatchResult};
 ghost use Rattle.stream.specs.declared.Phase.TheVariants.{Normal, Overrun};
 ghost use Rattle.demand.specs.Demands.{demand};
@@ -59,8 +61,8 @@ const UNWATCHED: Watch = Watch {
 // The rows of all streams, copied once so that the scan asks only for ceilings.
 fn rows_of<B: Bank>(bank: &B, streams: u64) -> [Row; 32]
     requires few { streams ≤ 32 }
-    requires whole { streams ≡ kind.streams bank.now }
-    ensures { Rows kind bank.now streams result }
+    requires whole { streams ≡ B.kind.streams bank.now }
+    ensures { Rows B.kind bank.now streams result }
 {
     let mut rows = [Row {
         class: Class::Background,
@@ -80,14 +82,14 @@ fn rows_of<B: Bank>(bank: &B, streams: u64) -> [Row; 32]
 
 // Whether a bank may run, whatever comes: refused for no stream, more than 32, a horizon above 1,000,000, or the first length that a demand exceeds. No length above the horizon is looked at, since none is worse.
 pub fn admit<B: Bank>(bank: &B) -> Result<Verdict, Refusal>
-    ensures { Judged kind bank.now result }
+    ensures { Judged B.kind bank.now result }
 {
     judge(bank)
 }
 
 // The same, as far as the horizon.
 fn judge<B: Bank>(bank: &B) -> Result<Verdict, Refusal>
-    ensures { MatchResult result (λ v. Looked kind bank.now v) (λ e. Refuses kind bank.now e) }
+    ensures { MatchResult result (λ v. Looked B.kind bank.now v) (λ e. Refuses B.kind bank.now e) }
 {
     let streams = bank.streams();
     if streams == 0 {
@@ -103,7 +105,7 @@ fn judge<B: Bank>(bank: &B) -> Result<Verdict, Refusal>
 
 // The demand of a phase at a length of at most 1,000,000, for at most 32 streams.
 pub fn demand_at<B: Bank>(bank: &B, phase: Phase, length: u64) -> Option<u64>
-    ensures { DemandTold kind bank.now phase length result }
+    ensures { DemandTold B.kind bank.now phase length result }
 {
     let streams = bank.streams();
     if streams > MOST_STREAMS || length > FARTHEST {
@@ -119,10 +121,10 @@ pub fn demand_at<B: Bank>(bank: &B, phase: Phase, length: u64) -> Option<u64>
 // The normal demand, with nothing known of the lengths before.
 fn normal_demand_alone<B: Bank>(bank: &B, rows: &[Row; 32], streams: u64, length: u64) -> u64
     requires few { streams ≤ 32 }
-    requires whole { streams ≡ kind.streams bank.now }
-    requires listed { Rows kind bank.now streams rows.now }
+    requires whole { streams ≡ B.kind.streams bank.now }
+    requires listed { Rows B.kind bank.now streams rows.now }
     requires within { length ≤ 1000000 }
-    ensures { result ≡ demand kind bank.now Normal length }
+    ensures { result ≡ demand B.kind bank.now Normal length }
 {
     normal_demand(bank, rows, streams, length, &mut [UNKNOWN; 32])
 }
@@ -130,10 +132,10 @@ fn normal_demand_alone<B: Bank>(bank: &B, rows: &[Row; 32], streams: u64, length
 // The overrun demand, with the plateaus of all lengths before.
 fn overrun_demand_after<B: Bank>(bank: &B, rows: &[Row; 32], streams: u64, length: u64) -> u64
     requires few { streams ≤ 32 }
-    requires whole { streams ≡ kind.streams bank.now }
-    requires listed { Rows kind bank.now streams rows.now }
+    requires whole { streams ≡ B.kind.streams bank.now }
+    requires listed { Rows B.kind bank.now streams rows.now }
     requires within { length ≤ 1000000 }
-    ensures { result ≡ demand kind bank.now Overrun length }
+    ensures { result ≡ demand B.kind bank.now Overrun length }
 {
     let mut watches = [UNWATCHED; 32];
     for before in 0..length {

@@ -7,7 +7,7 @@ use bank::Bank;
 
 // The load of one stream, in thousandths.
 fn load_of<B: Bank>(bank: &B, stream: u64) -> u64
-    ensures value { result ≡ load_of kind bank.now stream }
+    ensures value { result ≡ load_of B.kind bank.now stream }
     ensures bound { result ≤ 2 ^ 42 }
 {
     let Some(record) = bank.record_of(stream) else {
@@ -20,7 +20,7 @@ fn load_of<B: Bank>(bank: &B, stream: u64) -> u64
 
 // The load of a bank, in thousandths of the worker. Each stream's part is rounded down.
 pub fn load<B: Bank>(bank: &B) -> u64
-    ensures { result ≡ total_load kind bank.now }
+    ensures { result ≡ total_load B.kind bank.now }
 {
     let mut sum = 0;
     for i in 0..bank.streams() {

@@ -35,14 +35,14 @@ fn look<B: Bank>(
     watches: &mut [Watch; 32],
 ) -> Result<(Point, Point), Refusal>
     requires few { streams ≤ 32 }
-    requires whole { streams ≡ kind.streams bank.now }
-    requires listed { Rows kind bank.now streams rows.now }
+    requires whole { streams ≡ B.kind.streams bank.now }
+    requires listed { Rows B.kind bank.now streams rows.now }
     requires within { length ≤ 1000000 }
-    requires due { DueFrom kind bank.now rows.now 0 streams length known.old }
-    requires kept { KeptFrom kind bank.now rows.now 0 streams length watches.old }
-    ensures cases { MatchResult result (λ points. Passes kind bank.now length points) (λ e. Stops kind bank.now horizon length e) }
-    ensures due { OnOk result (DueFrom kind bank.now rows.now 0 streams (length + 1) known.new) }
-    ensures kept { OnOk result (KeptFrom kind bank.now rows.now 0 streams (length + 1) watches.new) }
+    requires due { DueFrom B.kind bank.now rows.now 0 streams length known.old }
+    requires kept { KeptFrom B.kind bank.now rows.now 0 streams length watches.old }
+    ensures cases { MatchResult result (λ points. Passes B.kind bank.now length points) (λ e. Stops B.kind bank.now horizon length e) }
+    ensures due { OnOk result (DueFrom B.kind bank.now rows.now 0 streams (length + 1) known.new) }
+    ensures kept { OnOk result (KeptFrom B.kind bank.now rows.now 0 streams (length + 1) watches.new) }
 {
     let normal = margin_of(
         Phase::Normal,
@@ -99,10 +99,10 @@ pub(crate) fn scan<B: Bank>(
     streams: u64,
     horizon: u64,
 ) -> Result<Verdict, Refusal>
-    requires whole { streams ≡ kind.streams bank.now }
-    requires listed { Rows kind bank.now streams rows.now }
-    requires reach { InReach kind bank.now horizon }
-    ensures { MatchResult result (λ v. Looked kind bank.now v) (λ e. Refuses kind bank.now e) }
+    requires whole { streams ≡ B.kind.streams bank.now }
+    requires listed { Rows B.kind bank.now streams rows.now }
+    requires reach { InReach B.kind bank.now horizon }
+    ensures { MatchResult result (λ v. Looked B.kind bank.now v) (λ e. Refuses B.kind bank.now e) }
 {
     let mut known = [UNKNOWN; 32];
     let mut watches = [UNWATCHED; 32];

@@ -17,7 +17,7 @@ use stream::{Class, Row};
 fn ceiling_at<B: Bank>(bank: &B, stream: u64, length: u64, before: u64) -> u64
     requires length_within { length ≤ 1000000 }
     requires before_within { before ≤ 65535 }
-    ensures { (rec : Rec) → kind.records bank.now stream ≡ Some rec → result ≡ back (kind.ceiling bank.now stream) length before }
+    ensures { (rec : Rec) → B.kind.records bank.now stream ≡ Some rec → result ≡ back (B.kind.ceiling bank.now stream) length before }
 {
     bank.ceiling(stream, length as i64 - before as i64)
         .unwrap_or(0)
@@ -25,12 +25,12 @@ fn ceiling_at<B: Bank>(bank: &B, stream: u64, length: u64, before: u64) -> u64
 
 // The lengths from `length` on, below which the ceiling is certain to stay at `level`: it never falls, so it is the same up to `last` if it is there.
 fn level_end<B: Bank>(bank: &B, stream: u64, level: u64, length: u64, before: u64, last: u64) -> u64
-    requires listed { (row : Numbers) × Listed kind bank.now stream row }
+    requires listed { (row : Numbers) × Listed B.kind bank.now stream row }
     requires length_within { length ≤ 1000000 }
     requires before_within { before ≤ 65535 }
     requires last_within { last ≤ 1000000 }
-    requires level { level ≡ back (kind.ceiling bank.now stream) length before }
-    ensures { (q : ℕ) → length ≤ q → q < result → back (kind.ceiling bank.now stream) q before ≡ level }
+    requires level { level ≡ back (B.kind.ceiling bank.now stream) length before }
+    ensures { (q : ℕ) → length ≤ q → q < result → back (B.kind.ceiling bank.now stream) q before ≡ level }
 {
     if ceiling_at(bank, stream, last, before) == level {
         last + 1
@@ -41,11 +41,11 @@ fn level_end<B: Bank>(bank: &B, stream: u64, level: u64, length: u64, before: u6
 
 // The normal share of a stream, asked for only where it may have changed.
 fn normal_share<B: Bank>(bank: &B, stream: u64, row: Row, length: u64, known: Steady) -> Steady
-    requires listed { Listed kind bank.now stream row }
+    requires listed { Listed B.kind bank.now stream row }
     requires within { length ≤ 1000000 }
-    requires holds { Holds (normal_share row (kind.ceiling bank.now stream)) length known }
-    ensures value { result.share ≡ normal_share row (kind.ceiling bank.now stream) length }
-    ensures holds { Holds (normal_share row (kind.ceiling bank.now stream)) (length + 1) result }
+    requires holds { Holds (normal_share row (B.kind.ceiling bank.now stream)) length known }
+    ensures value { result.share ≡ normal_share row (B.kind.ceiling bank.now stream) length }
+    ensures holds { Holds (normal_share row (B.kind.ceiling bank.now stream)) (length + 1) result }
 {
     if length < known.end {
         return known;
@@ -94,12 +94,12 @@ fn overrun_share<B: Bank>(
     length: u64,
     seen: Plateau,
 ) -> (Plateau, u64)
-    requires listed { Listed kind bank.now stream row }
+    requires listed { Listed B.kind bank.now stream row }
     requires within { length ≤ 1000000 }
-    requires watched { Watched row (kind.ceiling bank.now stream) length seen }
-    ensures value { result.1 ≡ overrun_share row (kind.ceiling bank.now stream) length }
+    requires watched { Watched row (B.kind.ceiling bank.now stream) length seen }
+    ensures value { result.1 ≡ overrun_share row (B.kind.ceiling bank.now stream) length }
     ensures bound { result.1 < 2 ^ 37 }
-    ensures watched { Watched row (kind.ceiling bank.now stream) (length + 1) result.0 }
+    ensures watched { Watched row (B.kind.ceiling bank.now stream) (length + 1) result.0 }
 {
     match row.class {
         Class::Background => (seen, 0),
@@ -118,11 +118,11 @@ fn overrun_share<B: Bank>(
 
 // Where the overrun share may change again: past its slack, a carried-over job first has to do its budget, and then the plateau has to end.
 fn overrun_end<B: Bank>(bank: &B, stream: u64, row: Row, length: u64, plateau: Plateau) -> u64
-    requires listed { Listed kind bank.now stream row }
+    requires listed { Listed B.kind bank.now stream row }
     requires within { length ≤ 1000000 }
-    requires watched { Watched row (kind.ceiling bank.now stream) (length + 1) plateau }
-    ensures share { (q : ℕ) → length < q → q < result → overrun_share row (kind.ceiling bank.now stream) q ≡ overrun_share row (kind.ceiling bank.now stream) length }
-    ensures stays { (q : ℕ) → length < q → q < result → Watched row (kind.ceiling bank.now stream) (q + 1) plateau }
+    requires watched { Watched row (B.kind.ceiling bank.now stream) (length + 1) plateau }
+    ensures share { (q : ℕ) → length < q → q < result → overrun_share row (B.kind.ceiling bank.now stream) q ≡ overrun_share row (B.kind.ceiling bank.now stream) length }
+    ensures stays { (q : ℕ) → length < q → q < result → Watched row (B.kind.ceiling bank.now stream) (q + 1) plateau }
 {
     match row.class {
         Class::Background => FARTHEST + 1,
@@ -142,11 +142,11 @@ fn overrun_end<B: Bank>(bank: &B, stream: u64, row: Row, length: u64, plateau: P
 
 // A stream in an overrun, asked for only where its share may have changed.
 fn watch<B: Bank>(bank: &B, stream: u64, row: Row, length: u64, known: Watch) -> Watch
-    requires listed { Listed kind bank.now stream row }
+    requires listed { Listed B.kind bank.now stream row }
     requires within { length ≤ 1000000 }
-    requires kept { Kept row (kind.ceiling bank.now stream) length known }
-    ensures value { result.steady.share ≡ overrun_share row (kind.ceiling bank.now stream) length }
-    ensures kept { Kept row (kind.ceiling bank.now stream) (length + 1) result }
+    requires kept { Kept row (B.kind.ceiling bank.now stream) length known }
+    ensures value { result.steady.share ≡ overrun_share row (B.kind.ceiling bank.now stream) length }
+    ensures kept { Kept row (B.kind.ceiling bank.now stream) (length + 1) result }
 {
     if length < known.steady.end {
         return known;
@@ -168,13 +168,13 @@ pub(crate) fn normal_demand<B: Bank>(
     known: &mut [Steady; 32],
 ) -> u64
     requires few { streams ≤ 32 }
-    requires whole { streams ≡ kind.streams bank.now }
-    requires listed { Rows kind bank.now streams rows.now }
+    requires whole { streams ≡ B.kind.streams bank.now }
+    requires listed { Rows B.kind bank.now streams rows.now }
     requires within { length ≤ 1000000 }
-    requires due { DueFrom kind bank.now rows.now 0 streams length known.old }
-    ensures value { result ≡ demand kind bank.now Normal length }
+    requires due { DueFrom B.kind bank.now rows.now 0 streams length known.old }
+    ensures value { result ≡ demand B.kind bank.now Normal length }
     ensures bound { result ≤ 2 ^ 42 }
-    ensures due { DueFrom kind bank.now rows.now 0 streams (length + 1) known.new }
+    ensures due { DueFrom B.kind bank.now rows.now 0 streams (length + 1) known.new }
 {
     let mut sum = 0;
     for i in 0..streams {
@@ -195,13 +195,13 @@ pub(crate) fn overrun_demand<B: Bank>(
     watches: &mut [Watch; 32],
 ) -> u64
     requires few { streams ≤ 32 }
-    requires whole { streams ≡ kind.streams bank.now }
-    requires listed { Rows kind bank.now streams rows.now }
+    requires whole { streams ≡ B.kind.streams bank.now }
+    requires listed { Rows B.kind bank.now streams rows.now }
     requires within { length ≤ 1000000 }
-    requires kept { KeptFrom kind bank.now rows.now 0 streams length watches.old }
-    ensures value { result ≡ demand kind bank.now Overrun length }
+    requires kept { KeptFrom B.kind bank.now rows.now 0 streams length watches.old }
+    ensures value { result ≡ demand B.kind bank.now Overrun length }
     ensures bound { result ≤ 2 ^ 42 }
-    ensures kept { KeptFrom kind bank.now rows.now 0 streams (length + 1) watches.new }
+    ensures kept { KeptFrom B.kind bank.now rows.now 0 streams (length + 1) watches.new }
 {
     let mut sum = 0;
     for i in 0..streams {

@@ -1,5 +1,7 @@
 // The engine of one worker: it lets releases in, hands out turns one at a time, and settles them.
 
+#![tactic(auto)]
+
 mod choosing;
 mod settling;
 mod slip;

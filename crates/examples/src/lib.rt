@@ -1,5 +1,7 @@
 // Worked examples, run.
 
+#![tactic(auto)]
+
 mod runs;
 
 #[cfg(test)]

@@ -1,6 +1,8 @@
 // Any bank behind a gate that shuts and opens as its owner plans.
 // Its openings are only bounded: what it means says nothing of when the gate shuts or opens.
 
+#![tactic(auto)]
+
 ghost use Rattle.std.specs.Prelude.{◌≡◌, ℕ, false, Some};
 ghost use Rattle.bank.specs.Questions.{told, spanned};
 ghost use Rattle.bank.specs.Runs.{AtMost};

@@ -1,5 +1,7 @@
 // Any two banks as one, the left one's streams first.
 
+#![tactic(auto)]
+
 ghost use Rattle.std.specs.Prelude.{◌≡◌};
 ghost use Rattle.join.specs.Joins.{joined, place};
 ghost use Rattle.join.specs.JoinsLemmas.{joined_lawful};

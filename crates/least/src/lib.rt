@@ -1,5 +1,7 @@
 // One scan for the least item of a slice, over any order.
 
+#![tactic(auto)]
+
 ghost use Rattle.std.specs.Prelude.{◌≡◌, Bool, if◌then◌else◌};
 ghost use Rattle.std.specs.Cmp.{IsStrictWeakOrder};
 ghost use Rattle.least.specs.Firsts.{FirstLeast};
@@ -20,14 +22,14 @@ pub trait Ranked {
 
 // The one of two items that comes first; of two that tie, the one that stood first.
 fn earlier<X: Ranked + Copy>(best: X, item: X) -> X
-    ensures { result ≡ (if below item best then item else best) }
+    ensures { result ≡ (if X.below item best then item else best) }
 {
     if item.precedes(&best) { item } else { best }
 }
 
 // The first of the least items, or none of an empty slice.
 pub fn least<X: Ranked + Copy>(items: &[X]) -> Option<X>
-    ensures { FirstLeast below items.now result }
+    ensures { FirstLeast X.below items.now result }
 {
     let [first, rest @ ..] = items else {
         return None;

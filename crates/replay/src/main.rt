@@ -1,5 +1,7 @@
 // Reads a plan on standard input and prints what the server answers to it.
 
+#![tactic(auto)]
+
 use server::{LONGEST_TEXT, replay};
 use std::io::{Read, Write};
 

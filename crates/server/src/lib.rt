@@ -1,5 +1,7 @@
 // What the server asks for: a text in, an answer out.
 
+#![tactic(auto)]
+
 ghost use Rattle.std.specs.Prelude.{◌≡◌, IfOk, string_bytes};
 ghost use Rattle.server.specs.Checks.{Checked};
 ghost use Rattle.server.specs.Replays.{Replayed};

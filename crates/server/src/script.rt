@@ -15,7 +15,7 @@ use turns::Settled;
 
 // A turn that nobody could have is told by what made its slip void.
 fn take_turn<B: Bank>(engine: &mut Engine<B>, done: bool) -> Result<Settled, Refusal>
-    ensures { TurnTaken kind engine.old.bank engine.old.state done result engine.new.bank engine.new.state }
+    ensures { TurnTaken B.kind engine.old.bank engine.old.state done result engine.new.bank engine.new.state }
 {
     let slip = engine.pick();
     let void = slip.refusal();
@@ -38,7 +38,7 @@ fn refused(refusal: Refusal, line: u64) -> Answer
 }
 
 fn perform<B: Bank>(engine: &mut Engine<B>, call: Call, line: u64) -> Answer
-    ensures { Performed kind engine.old.bank engine.old.state call line result engine.new.bank engine.new.state }
+    ensures { Performed B.kind engine.old.bank engine.old.state call line result engine.new.bank engine.new.state }
 {
     match call {
         Call::Release(stream) => match engine.release(stream) {
@@ -62,7 +62,7 @@ pub(crate) fn run_script<B: Bank + Drop>(
     mut engine: Engine<B>,
     answers: &mut Answers,
 ) -> Result<(), AllocError>
-    ensures { OnOk result (Wrote kind (bytes_left reader.old) (line_number reader.old) engine.bank engine.state (string_bytes answers.old.lines) (string_bytes answers.new.lines)) }
+    ensures { OnOk result (Wrote B.kind (bytes_left reader.old) (line_number reader.old) engine.bank engine.state (string_bytes answers.old.lines) (string_bytes answers.new.lines)) }
 {
     while !reader.at_end() {
         let line = reader.line_number();

@@ -1,5 +1,7 @@
 // Streams of jobs and what is said of them: a stream's numbers and their limits, the refusals with their numbers, and faults with their places.
 
+#![tactic(auto)]
+
 ghost use Rattle.std.specs.Prelude.{◌≡◌};
 ghost use Rattle.stream.specs.Faults.{placed};
 ghost use Rattle.stream.specs.Refusals.{number, letter};

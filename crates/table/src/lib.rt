@@ -1,5 +1,7 @@
 // Banks over a table of streams, each with the ticks for which it stays closed.
 
+#![tactic(auto)]
+
 mod moments;
 mod phasing;
 mod shared;

@@ -1,5 +1,7 @@
 // Bracket lines: the answers that are written, and the plans and scripts that are read.
 
+#![tactic(auto)]
+
 mod answer;
 mod call;
 mod cursor;

@@ -1,5 +1,7 @@
 // One worker, turn by turn, beside its bank: its plain state, what each call makes of it, the ledger of its jobs, and the law that none is late or lost.
 
+#![tactic(auto)]
+
 ghost use Rattle.std.specs.Prelude.{◌≡◌};
 ghost use Rattle.turns.specs.Jobs.{ending};
 ghost use Rattle.turns.specs.Law.{NoneLate};
@@ -114,8 +116,8 @@ impl State {
 
 // Begins a bank at a moment and judges it. Whatever is then called, in whatever order, no job is late and none is lost, by the ledger of those calls.
 pub fn begin<B: Bank>(bank: &mut B, moment: u64) -> State
-    ensures started { Started kind bank.old moment bank.new result }
-    ensures promise { NoneLate kind bank.new result }
+    ensures started { Started B.kind bank.old moment bank.new result }
+    ensures promise { NoneLate B.kind bank.new result }
 {
     if moment > LAST_MOMENT {
         return State::new(moment, Err(Refusal::MomentTooLate));

@@ -1,5 +1,7 @@
 // Worked plans: what the definitions come to on small numbers, as one fact.
 
+#![tactic(auto)]
+
 ghost use Rattle.std.specs.Prelude.{◌≡◌, [], ◌∷◌, IfOk};
 ghost use Rattle.table.specs.Sporadics.{states_in};
 ghost use Rattle.table.specs.Tables.{fresh};

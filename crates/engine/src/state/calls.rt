@@ -19,8 +19,8 @@ const PLACES: u64 = 32;
 impl<B: Bank> Engine<B> {
     // Begins the bank at a moment and judges it: the engine is open, or shut by the refusal. Whatever is then called, in whatever order, no job is late and none is lost, by the ledger of those calls.
     pub fn start(bank: B, moment: u64) -> Engine<B>
-        ensures started { Started kind bank moment result.bank result.state }
-        ensures promise { NoneLate kind result.bank result.state }
+        ensures started { Started B.kind bank moment result.bank result.state }
+        ensures promise { NoneLate B.kind result.bank result.state }
     {
         let mut bank = bank;
         let state = begin(&mut bank, moment);
@@ -55,7 +55,7 @@ impl<B: Bank> Engine<B> {
 
     // Lets a job of a stream in, if the bank does.
     pub fn release(&mut self, stream: u64) -> Result<(), Refusal>
-        ensures { Released kind self.old.bank self.old.state stream result self.new.bank self.new.state }
+        ensures { Released B.kind self.old.bank self.old.state stream result self.new.bank self.new.state }
     {
         if self.is_shut() {
             return Err(Refusal::Shut);
@@ -122,7 +122,7 @@ impl<B: Bank> Engine<B> {
 
     // Settles the turn that is out: done or not. The slip is spent; the engine itself knows whose turn it is.
     pub fn settle(&mut self, slip: Slip, done: bool) -> Result<Settled, Refusal>
-        ensures { TurnSettled kind self.old.bank self.old.state slip.void done result self.new.bank self.new.state }
+        ensures { TurnSettled B.kind self.old.bank self.old.state slip.void done result self.new.bank self.new.state }
     {
         let Slip { void } = slip;
         if void.is_some() {
@@ -168,7 +168,7 @@ impl<B: Bank> Engine<B> {
     pub fn report(self) -> Report<B>
         ensures counts { result.counts ≡ counts_of self.state }
         ensures bank { result.bank ≡ self.bank }
-        ensures letter { result.letter ≡ kind.letter }
+        ensures letter { result.letter ≡ B.kind.letter }
     {
         let Engine { bank, state } = self;
         let letter = bank.kind_letter();
