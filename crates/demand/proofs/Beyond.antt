@@ -1,7 +1,7 @@
 -- No length above the horizon is worse: what is asked within a length and a horizon more is at most what is asked within each of the two.
 
 use Rattle.std.proofs.Common.{◌≡◌, ℕ, zero, suc, ◌+◌, ◌-◌, ◌*◌, ◌/◌, ◌%◌, ◌<◌, ◌≤◌, min, Some, None, Option, sym, refl, ap, ◌∙◌, subst, ⊎_elim, mul-le-mul_right, suc-mul, add-mul, one-mul, zero-add, zero-mul, arith}
-use native.Mathlib.Nat.{mod_add_div'}
+use native.Mathlib.Nat.{mod-add-div'}
 use Rattle.std.proofs.lemmas.Bool.{cases_lt}
 use Rattle.stream.specs.Limits.{Within}
 use Rattle.stream.specs.declared.Class.{Class}
@@ -117,7 +117,7 @@ module _ {S : Type 0} (k : Kind S) (b : S) (ceilings : (i : ℕ) (r : Record) �
           let N : ℕ → ℕ = k.ceiling b i in
           let T : ℕ = r.row.gap in
           let law = ceilings i r e in
-          let is : h / T * T ≡ h = omega (arith, mod_add_div' h T, common.divided i r e) in
+          let is : h / T * T ≡ h = omega (arith, mod-add-div' h T, common.divided i r e) in
           let some : 1 ≤ h / T =
           ⊎_elim
           (λ (none : h / T < 1). let z : h / T * T ≡ 0 = (let q : h / T ≡ 0 = omega arith in ap (λ (x : ℕ). x * T) q ∙ zero-mul T) in let f : ⊥ = omega (arith, common.some) in absurd f)
@@ -147,4 +147,4 @@ module _ {S : Type 0} (k : Kind S) (b : S) (ceilings : (i : ℕ) (r : Record) �
   pub fits_beyond : ((t : ℕ) → t ≤ h → Fits k b t) → Feasible k b
   fits_beyond fits t =
       let some = common.some in
-      subst (λ (x : ℕ). Fits k b x) (mod_add_div' t h) (fits_turns fits (t / h) (t % h) (omega arith))
+      subst (λ (x : ℕ). Fits k b x) (mod-add-div' t h) (fits_turns fits (t / h) (t % h) (omega arith))

@@ -1,7 +1,7 @@
 -- The least common multiple grows gap by gap: a common multiple is a multiple of the least one, since what is left over would be a smaller one.
 
 use Rattle.std.proofs.Common.{◌≡◌, ℕ, ◌+◌, ◌-◌, ◌*◌, ◌/◌, ◌%◌, ◌<◌, ◌≤◌, List, length, get_or, sym, refl, ap, ◌∙◌, subst, ⊎_elim, mul-le-mul_right, add-mul, one-mul, zero-mul, arith}
-use native.Mathlib.Nat.{mod_add_div', dvd-mul_left_of_dvd, dvd_of_mod-eq-zero, mod-eq-zero_of_dvd, mod-mod_of_dvd}
+use native.Mathlib.Nat.{mod-add-div', dvd-mul_left_of_dvd, dvd_of_mod-eq-zero, mod-eq-zero_of_dvd, mod-mod_of_dvd}
 use Rattle.std.proofs.lemmas.List.{get_or_default}
 use Rattle.std.proofs.lemmas.Bool.{cases_eq, cases_lt}
 use Rattle.stream.specs.declared.Row.{Row}
@@ -32,7 +32,7 @@ tried : (rows : List Row) (i h m : ℕ) (d : Row) → LeastMultiple rows i h →
 tried rows i h m d l mult =
     let some = mult.some in
     let none = least_divides rows i h m l (multiple_fewer rows (i + 1) i m (omega arith) mult) in
-    let parts = mod_add_div' m h in
+    let parts = mod-add-div' m h in
     let is : m ≡ m / h * h = omega arith in
     let once : 1 ≤ m / h =
     ⊎_elim
@@ -72,13 +72,13 @@ none_more rows i n h d below l none m mult =
 
 -- the multiples of h that are tried are those within the limit
 pub tried_near : (times h limit : ℕ) → times ≤ limit / h → times * h ≤ limit
-tried_near times h limit l = let up = mul-le-mul_right h l in omega (arith, mod_add_div' limit h)
+tried_near times h limit l = let up = mul-le-mul_right h l in omega (arith, mod-add-div' limit h)
 
 pub near_tried : (p h limit : ℕ) → 1 ≤ h → p * h ≤ limit → p ≤ limit / h
 near_tried p h limit some near =
     ⊎_elim
     (λ (far : limit / h < p).
     let up : (limit / h + 1) * h ≤ p * h = mul-le-mul_right h (omega arith) in
-    let z : ⊥ = omega (arith, add-mul (limit / h) 1 h, one-mul h, mod_add_div' limit h) in absurd z)
+    let z : ⊥ = omega (arith, add-mul (limit / h) 1 h, one-mul h, mod-add-div' limit h) in absurd z)
     (λ (l : p ≤ limit / h). l)
     (cases_lt (limit / h) p)

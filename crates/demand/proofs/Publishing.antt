@@ -1,7 +1,7 @@
 -- The published form of the overrun share, from the form by plateaus: those of m / T + 1 begin at the multiples of T.
 
 use Rattle.std.proofs.Common.{◌≡◌, ℕ, zero, suc, ◌+◌, ◌-◌, ◌*◌, ◌/◌, ◌%◌, ◌<◌, ◌≤◌, cond, ltb, leb, ℤ, pos, negsuc, ◌+ℤ◌, ◌-ℤ◌, ◌*ℤ◌, ◌<ℤ◌, sym, refl, ap, ◌∙◌, subst, ⊎_elim, mul-le-mul_right, mod-eq_of_lt, suc-mul, div-lt_iff_lt-mul, add-mul, one-mul, le-div_iff_mul-le, zero-mul, div-mul-le_self, mul-div_cancel, arith}
-use native.Mathlib.Nat.{mod_add_div', add-mul-mod_self_right, div-eq_of_lt-le}
+use native.Mathlib.Nat.{mod-add-div', add-mul-mod_self_right, div-eq_of_lt-le}
 use Rattle.std.proofs.lemmas.Int.{ints, clamps}
 use Rattle.std.proofs.lemmas.Bool.{cases_lt, cond-true, cond-false, lt-ltb, le-ltb, le-leb, lt-leb}
 use Rattle.stream.specs.Limits.{Within}
@@ -46,7 +46,7 @@ module _ (r : Row) (w : Within r) (critical : r.class ≡ Critical) where
       let gap = w.0 in
       let deadline = w.1 in
       let short = w.3.0 critical in
-      let parts = mod_add_div' t T in
+      let parts = mod-add-div' t T in
       let rest : t % T < T = omega arith in
       ⊎_elim
       (λ (before : t % T < slack r).
@@ -70,7 +70,7 @@ module _ (r : Row) (w : Within r) (critical : r.class ≡ Critical) where
   spaced_share t late =
       let m : ℕ = t - slack r in
       let closed = plateau_share r (spaced r) w critical spaced_rises t (m / r.gap * r.gap) (spaced r m) late (spaced_flat m) in
-      let since : m - m / r.gap * r.gap ≡ m % r.gap = omega (arith, mod_add_div' m r.gap) in
+      let since : m - m / r.gap * r.gap ≡ m % r.gap = omega (arith, mod-add-div' m r.gap) in
       let left = left_is_deducted t late in
       let budgets = w.2.2 critical in
       let one : 1 * r.certain ≤ spaced r m * r.certain = mul-le-mul_right r.certain (omega arith) in

@@ -1,7 +1,7 @@
 -- How large a ceiling, a share and a demand can be: everything fits 64 bits with room to spare.
 
 use Rattle.std.proofs.Common.{◌≡◌, ℕ, zero, suc, ◌+◌, ◌-◌, ◌*◌, ◌/◌, ◌%◌, ◌^◌, ◌<◌, ◌≤◌, sym, refl, ap, ◌∙◌, subst, ⊎_elim, mul-le-mul_right, add-mul, mul-le-mul, mul-le-mul_left, one-mul, zero-mul, arith}
-use native.Mathlib.Nat.{mod_add_div'}
+use native.Mathlib.Nat.{mod-add-div'}
 use Rattle.std.proofs.lemmas.Bool.{cases_lt}
 use Rattle.stream.specs.Limits.{Within}
 use Rattle.stream.specs.declared.Class.{Class}
@@ -45,7 +45,7 @@ pub ceiling_at_most : {r : Row} {k : ℕ} {N : ℕ → ℕ} → Ceiling r k N �
 ceiling_at_most {r} {k} {N} law w m =
     let T : ℕ = r.gap in
     let limits = w.0 in
-    let parts = mod_add_div' m T in
+    let parts = mod-add-div' m T in
     let bound = ceiling_gaps law w (m / T) (m % T) (omega arith) in
     omega (arith, ap N parts)
 

@@ -1,7 +1,7 @@
 -- What holds of a moment's phase, and of a table whose streams have phases.
 
 use Rattle.std.proofs.Common.{◌≡◌, ℕ, ◌+◌, ◌-◌, ◌%◌, ◌<◌, ◌≤◌, List, [], ◌∷◌, ◌++◌, length, get_or, take, set, Some, sym, ap, ◌∙◌, subst, ⊎_elim, mod-eq_of_lt, arith}
-use native.Mathlib.Nat.{mod_add_mod, mod_eq_sub_mod, add-mod_right}
+use native.Mathlib.Nat.{mod-add-mod, mod-eq-sub-mod, add-mod_right}
 use Rattle.std.proofs.lemmas.List.{length_push, get_or-take, get_or-set_same, get_or-set_other}
 use Rattle.std.proofs.lemmas.Bool.{cases_lt}
 use Rattle.std.specs.Option.{option_map}
@@ -19,10 +19,10 @@ use Rattle.table.proofs.Waiting.{Rewaits, Waited}
 pub until_this_turn : (moment gap phase : ℕ) → phase < gap → moment % gap ≤ phase → Until moment gap phase (phase - moment % gap)
 until_this_turn moment gap phase h from =
     let meet : moment % gap + (phase - moment % gap) ≡ phase = omega arith in (
-      sym (mod_add_mod moment gap (phase - moment % gap)) ∙ ap (λ n. n % gap) meet ∙ mod-eq_of_lt h,
+      sym (mod-add-mod moment gap (phase - moment % gap)) ∙ ap (λ n. n % gap) meet ∙ mod-eq_of_lt h,
       λ less below hit.
           let short : moment % gap + less < gap = omega arith in
-          let here : moment % gap + less ≡ phase = sym (mod-eq_of_lt short) ∙ mod_add_mod moment gap less ∙ hit in
+          let here : moment % gap + less ≡ phase = sym (mod-eq_of_lt short) ∙ mod-add-mod moment gap less ∙ hit in
           let z : ⊥ = omega arith in
           absurd z,
     )
@@ -31,9 +31,9 @@ until_this_turn moment gap phase h from =
 pub until_next_turn : (moment gap phase : ℕ) → phase < gap → phase < moment % gap → Until moment gap phase (phase + gap - moment % gap)
 until_next_turn moment gap phase h past =
     let meet : moment % gap + (phase + gap - moment % gap) ≡ phase + gap = omega arith in (
-      sym (mod_add_mod moment gap (phase + gap - moment % gap)) ∙ ap (λ n. n % gap) meet ∙ add-mod_right phase gap ∙ mod-eq_of_lt h,
+      sym (mod-add-mod moment gap (phase + gap - moment % gap)) ∙ ap (λ n. n % gap) meet ∙ add-mod_right phase gap ∙ mod-eq_of_lt h,
       λ less below hit.
-          let at : (moment % gap + less) % gap ≡ phase = mod_add_mod moment gap less ∙ hit in
+          let at : (moment % gap + less) % gap ≡ phase = mod-add-mod moment gap less ∙ hit in
           ⊎_elim
           (λ (short : moment % gap + less < gap).
           let here : moment % gap + less ≡ phase = sym (mod-eq_of_lt short) ∙ at in
@@ -41,7 +41,7 @@ until_next_turn moment gap phase h past =
           absurd z)
           (λ (long : gap ≤ moment % gap + less).
           let short : moment % gap + less - gap < gap = omega arith in
-          let here : moment % gap + less - gap ≡ phase = sym (mod-eq_of_lt short) ∙ sym (mod_eq_sub_mod long) ∙ at in
+          let here : moment % gap + less - gap ≡ phase = sym (mod-eq_of_lt short) ∙ sym (mod-eq-sub-mod long) ∙ at in
           let z : ⊥ = omega arith in
           absurd z)
           (cases_lt (moment % gap + less) gap),

@@ -1,7 +1,7 @@
 -- The worked plans, each by computing.
 
 use Rattle.std.proofs.Common.{◌≡◌, ℕ, ◌+◌, ◌*◌, ◌/◌, ◌%◌, ◌<◌, ◌≤◌, List, [], ◌∷◌, map, pos, negsuc, Some, sym, refl, ap, ◌∙◌, subst, ⊎_elim, add-mul, mul-le-mul_left, one-mul, mul-zero, mul-one, mul-add, arith}
-use native.Mathlib.Nat.{mod_add_div}
+use native.Mathlib.Nat.{mod-add-div}
 use Rattle.std.proofs.lemmas.Bool.{cases_lt}
 use Rattle.stream.specs.declared.Phase.{Phase}
 use Rattle.stream.specs.declared.Phase.TheVariants.{Normal, Overrun}
@@ -39,8 +39,8 @@ neighbours : (g m : ℕ) → 1 ≤ m → m % g ≡ 0 → m % (g + 1) ≡ 0 → (
 neighbours g m some first second =
     let a : ℕ = m / g in
     let b : ℕ = m / (g + 1) in
-    let is : g * a ≡ m = omega (arith, mod_add_div m g) in
-    let too : g * b + b ≡ m = omega (arith, mod_add_div m (g + 1), add-mul g 1 b, one-mul b) in
+    let is : g * a ≡ m = omega (arith, mod-add-div m g) in
+    let too : g * b + b ≡ m = omega (arith, mod-add-div m (g + 1), add-mul g 1 b, one-mul b) in
     ⊎_elim
     (λ (more : b < a).
     let up : g * (b + 1) ≤ g * a = mul-le-mul_left g (omega arith) in

@@ -7,37 +7,37 @@ use Rattle.demand.specs.Verdicts.{Looked, Refuses}
 use Rattle.demand.proofs.Listing.{listed_within, least_horizon, common_multiple}
 use Rattle.demand.proofs.judge.Goals as goal
 
-pub common-multiple-requires : goal.common-multiple-requires
-common-multiple-requires g c = record {
-  few = c.if-streams-gt-MOST-STREAMS.false;
-  spaced = λ i d h. (listed_within g.B.Bank.kind c.args.bank.now _ _ (c.rows-of-rows.ensures i d h)).0.0;
+pub common_multiple-requires : goal.common_multiple-requires
+common_multiple-requires g c = record {
+  few = c.if-streams-gt-MOST_STREAMS.false;
+  spaced = λ i d h. (listed_within g.B.Bank.kind c.args.bank.now _ _ (c.rows_of-rows.ensures i d h)).0.0;
 }
 
-pub returns-in-err-horizon : goal.returns-in-err-horizon
-returns-in-err-horizon g c =
+pub returns-in_err-horizon : goal.returns-in_err-horizon
+returns-in_err-horizon g c =
     let k = g.B.Bank.kind in
     let b = c.args.bank.now in
-    let p = err_from_is_err_and c.from-residual.result c.from-residual.ensures.1 in
-    let none = c.in-err-horizon.ensures in
-    let is : c.from-residual.result ≡ Err HorizonTooFar = (let e = p.1 in let f = p.2 in let n = none.0 in cc) in
+    let p = err_from_is_err_and c.from_residual.result c.from_residual.ensures.1 in
+    let none = c.in_err-horizon.ensures in
+    let is : c.from_residual.result ≡ Err HorizonTooFar = (let e = p.1 in let f = p.2 in let n = none.0 in cc) in
     let P : Result Verdict Refusal → Type 0 = λ r. MatchResult r (λ v. Looked k b v) (λ e. Refuses k b e) in
     subst P (sym is) (record {
       some = omega (arith, c.streams-streams.ensures, c.if-streams-eq0.false);
-      few = omega (arith, c.streams-streams.ensures, c.if-streams-gt-MOST-STREAMS.false);
-      far = λ m common. none.1 m (common_multiple k b c.streams-streams.result m c.rows-of-rows.result c.rows-of-rows.ensures common);
+      few = omega (arith, c.streams-streams.ensures, c.if-streams-gt-MOST_STREAMS.false);
+      far = λ m common. none.1 m (common_multiple k b c.streams-streams.result m c.rows_of-rows.result c.rows_of-rows.ensures common);
     })
 
 pub scan-requires : goal.scan-requires
 scan-requires g c =
-    let l = c.in-ok-horizon.ensures in
+    let l = c.in_ok-horizon.ensures in
     let whole = c.streams-streams.ensures in
     record {
       whole = whole;
-      listed = c.rows-of-rows.ensures;
+      listed = c.rows_of-rows.ensures;
       reach = record {
         some = omega (arith, whole, c.if-streams-eq0.false);
-        few = omega (arith, whole, c.if-streams-gt-MOST-STREAMS.false);
-        horizon = least_horizon g.B.Bank.kind g.met.B.Bank.lawful c.args.bank.now c.streams-streams.result c.in-ok-horizon.horizon c.rows-of-rows.result whole c.rows-of-rows.ensures l.0;
+        few = omega (arith, whole, c.if-streams-gt-MOST_STREAMS.false);
+        horizon = least_horizon g.B.Bank.kind g.met.B.Bank.lawful c.args.bank.now c.streams-streams.result c.in_ok-horizon.horizon c.rows_of-rows.result whole c.rows_of-rows.ensures l.0;
         near = l.1;
       };
     }

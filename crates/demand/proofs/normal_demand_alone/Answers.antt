@@ -1,8 +1,8 @@
 use Rattle.demand.proofs.Steadies.{due_none}
 use Rattle.demand.proofs.normal_demand_alone.Goals as goal
 
-pub normal-demand-requires : goal.normal-demand-requires
-normal-demand-requires g c =
+pub normal_demand-requires : goal.normal_demand-requires
+normal_demand-requires g c =
     record {
       few = c.requires.few;
       whole = c.requires.whole;

@@ -6,8 +6,8 @@ use Rattle.demand.proofs.overrun_demand_after.Goals as goal
 pub loop-before-init : goal.loop-before-init
 loop-before-init g c = kept_none g.B.Bank.kind c.args.bank.now c.args.rows.now c.args.streams c.requires.few
 
-pub overrun-demand-requires-2 : goal.overrun-demand-requires-2
-overrun-demand-requires-2 g c =
+pub overrun_demand-requires-2 : goal.overrun_demand-requires-2
+overrun_demand-requires-2 g c =
     let k = g.B.Bank.kind in
     let b = c.args.bank.now in
     let ended : c.loop-before.before ≡ c.args.length = omega (arith, c.loop-before-test.false) in

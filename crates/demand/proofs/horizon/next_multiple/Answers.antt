@@ -5,8 +5,8 @@ use Rattle.demand.proofs.horizon.next_multiple.Goals as goal
 pub loop-times-init : goal.loop-times-init
 loop-times-init c p some early divided = omega arith
 
-pub overflow-mul-multiple : goal.overflow-mul-multiple
-overflow-mul-multiple c =
+pub overflow_mul-multiple : goal.overflow_mul-multiple
+overflow_mul-multiple c =
     let near = tried_near c.loop-times.times c.args.h 1000000 (omega (arith, c.loop-times-test.true)) in
     omega arith
 

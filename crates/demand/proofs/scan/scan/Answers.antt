@@ -20,9 +20,9 @@ loop-length-preserved g c =
     let k = g.B.Bank.kind in
     let b = c.args.bank.now in
     let t = c.loop-length.length in
-    let pass = c.in-ok-normal.ensures.cases in (
+    let pass = c.in_ok-normal.ensures.cases in (
       below_more (λ s. Fits k b s) t c.loop-length.invariant.0 pass.fits,
-      c.in-ok-normal.ensures.due,
-      c.in-ok-normal.ensures.kept,
-      nearest_upto k b t (t + 1 - 1) c.loop-length.nearest c.in-ok-normal.normal c.in-ok-normal.overrun c.keep-nearest.new.nearest (omega arith) pass.normal pass.overrun c.loop-length.invariant.3 c.keep-nearest.ensures.first c.keep-nearest.ensures.later,
+      c.in_ok-normal.ensures.due,
+      c.in_ok-normal.ensures.kept,
+      nearest_upto k b t (t + 1 - 1) c.loop-length.nearest c.in_ok-normal.normal c.in_ok-normal.overrun c.keep_nearest.new.nearest (omega arith) pass.normal pass.overrun c.loop-length.invariant.3 c.keep_nearest.ensures.first c.keep_nearest.ensures.later,
     )

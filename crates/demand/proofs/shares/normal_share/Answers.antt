@@ -13,30 +13,30 @@ returns-then-length-row g c =
     let early = normal_early c.args.row (g.B.Bank.kind.ceiling c.args.bank.now c.args.stream) c.args.length in
     record { value = sym (early.is c.args.length (omega arith) c.if-length-row.true); holds = holds_later early }
 
-pub ceiling-at-level-requires : goal.ceiling-at-level-requires
-ceiling-at-level-requires g c =
+pub ceiling_at-level-requires : goal.ceiling_at-level-requires
+ceiling_at-level-requires g c =
     let short = short_fits (listed_within g.B.Bank.kind c.args.bank.now c.args.stream c.args.row c.requires.listed) in
-    record { length-within = c.requires.within; before-within = omega arith }
+    record { length_within = c.requires.within; before_within = omega arith }
 
-pub level-end-requires : goal.level-end-requires
-level-end-requires g c =
+pub level_end-requires : goal.level_end-requires
+level_end-requires g c =
     let l = c.requires.listed in
     let short = short_fits (listed_within g.B.Bank.kind c.args.bank.now c.args.stream c.args.row l) in
     record {
       listed = (c.args.row, l);
-      length-within = c.requires.within;
-      before-within = omega arith;
+      length_within = c.requires.within;
+      before_within = omega arith;
       last_within = omega (arith, c.min-last.ensures);
-      level = c.ceiling-at-level.ensures l.0 l.1;
+      level = c.ceiling_at-level.ensures l.0 l.1;
     }
 
-pub overflow-mul-result : goal.overflow-mul-result
-overflow-mul-result g c =
+pub overflow_mul-result : goal.overflow_mul-result
+overflow_mul-result g c =
     let l = c.requires.listed in
     let k = g.B.Bank.kind in
     let b = c.args.bank.now in
     let small = budget_fits (listed_within k b c.args.stream c.args.row l) in
-    let fits = asked_product k g.met.B.Bank.lawful b c.args.stream c.args.row l c.args.length c.args.row.short c.ceiling-at-level.result c.args.row.budget c.requires.within (c.ceiling-at-level.ensures l.0 l.1) small in
+    let fits = asked_product k g.met.B.Bank.lawful b c.args.stream c.args.row l c.args.length c.args.row.short c.ceiling_at-level.result c.args.row.budget c.requires.within (c.ceiling_at-level.ensures l.0 l.1) small in
     omega arith
 
 pub returns : goal.returns
@@ -46,9 +46,9 @@ returns g c =
     let k = g.B.Bank.kind in
     let b = c.args.bank.now in
     let small = budget_fits (listed_within k b c.args.stream c.args.row l) in
-    let is = c.ceiling-at-level.ensures l.0 l.1 in
-    let fits = asked_product k g.met.B.Bank.lawful b c.args.stream c.args.row l c.args.length c.args.row.short c.ceiling-at-level.result c.args.row.budget c.requires.within is small in
+    let is = c.ceiling_at-level.ensures l.0 l.1 in
+    let fits = asked_product k g.met.B.Bank.lawful b c.args.stream c.args.row l c.args.length c.args.row.short c.ceiling_at-level.result c.args.row.budget c.requires.within is small in
     record {
       value = ap (λ (n : ℕ). n * c.args.row.budget) is;
-      holds = normal_lasts c.args.row (k.ceiling b c.args.stream) c.args.length c.ceiling-at-level.result c.level-end.result c.level-end.ensures fits;
+      holds = normal_lasts c.args.row (k.ceiling b c.args.stream) c.args.length c.ceiling_at-level.result c.level_end.result c.level_end.ensures fits;
     }

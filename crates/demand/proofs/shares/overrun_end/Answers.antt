@@ -22,8 +22,8 @@ returns-then-length-slack g c =
     let early = c.if-length-slack.true in
     record { share = early_same c.args.row N c.args.length early; stays = early_stays c.args.row N c.args.length c.args.plateau early c.requires.watched }
 
-pub level-end-requires : goal.level-end-requires
-level-end-requires g c =
+pub level_end-requires : goal.level_end-requires
+level_end-requires g c =
     let l = c.requires.listed in
     let k = g.B.Bank.kind in
     let b = c.args.bank.now in
@@ -33,8 +33,8 @@ level-end-requires g c =
     let flat = known_flat c.args.row N c.args.length c.args.plateau c.in-Critical.is late c.requires.watched in
     record {
       listed = (c.args.row, l);
-      length-within = c.requires.within;
-      before-within = omega arith;
+      length_within = c.requires.within;
+      before_within = omega arith;
       last_within = omega (arith, c.min-last.ensures);
       level = flat.value ∙ sym (back_after N c.args.length (slack c.args.row) late);
     }
@@ -51,6 +51,6 @@ returns-else-length-slack-2 g c =
     let late = c.if-length-slack.false in
     let critical = c.in-Critical.is in
     record {
-      share = share_lasts row law w critical c.args.length c.level-end.result c.args.plateau late c.requires.watched c.level-end.ensures c.if-length-slack-2.false;
-      stays = plateau_lasts row law w critical c.args.length c.level-end.result c.args.plateau late c.requires.watched c.level-end.ensures;
+      share = share_lasts row law w critical c.args.length c.level_end.result c.args.plateau late c.requires.watched c.level_end.ensures c.if-length-slack-2.false;
+      stays = plateau_lasts row law w critical c.args.length c.level_end.result c.args.plateau late c.requires.watched c.level_end.ensures;
     }

@@ -28,18 +28,18 @@ returns-then-length-slack g c =
       watched = watched_early c.args.row N c.args.length c.args.seen c.if-length-slack.true c.requires.watched;
     }
 
-pub overflow-sub-m-in-Critical : goal.overflow-sub-m-in-Critical
-overflow-sub-m-in-Critical g c =
+pub overflow_sub-m-in-Critical : goal.overflow_sub-m-in-Critical
+overflow_sub-m-in-Critical g c =
     let l = c.requires.listed in
-    (flat_now g.B.Bank.kind g.met.B.Bank.lawful c.args.bank.now c.args.stream c.args.row l c.args.length c.ceiling-at-level.result c.args.seen c.at-plateau.result c.if-length-slack.false c.in-Critical.is c.requires.watched (c.ceiling-at-level.ensures l.0 l.1) c.at-plateau.ensures).reaches
+    (flat_now g.B.Bank.kind g.met.B.Bank.lawful c.args.bank.now c.args.stream c.args.row l c.args.length c.ceiling_at-level.result c.args.seen c.at-plateau.result c.if-length-slack.false c.in-Critical.is c.requires.watched (c.ceiling_at-level.ensures l.0 l.1) c.at-plateau.ensures).reaches
 
-pub less-done-requires : goal.less-done-requires
-less-done-requires g c =
+pub less_done-requires : goal.less_done-requires
+less_done-requires g c =
     let l = c.requires.listed in
     let k = g.B.Bank.kind in
     let b = c.args.bank.now in
     let small = certain_fits (listed_within k b c.args.stream c.args.row l) c.in-Critical.is in
-    asked_product k g.met.B.Bank.lawful b c.args.stream c.args.row l c.args.length (slack c.args.row) c.ceiling-at-level.result c.args.row.certain c.requires.within (c.ceiling-at-level.ensures l.0 l.1) small
+    asked_product k g.met.B.Bank.lawful b c.args.stream c.args.row l c.args.length (slack c.args.row) c.ceiling_at-level.result c.args.row.certain c.requires.within (c.ceiling_at-level.ensures l.0 l.1) small
 
 pub returns-else-length-slack : goal.returns-else-length-slack
 returns-else-length-slack g c =
@@ -50,17 +50,17 @@ returns-else-length-slack g c =
     let row = c.args.row in
     let t = c.args.length in
     let w = listed_within k b i row l in
-    let is = c.ceiling-at-level.ensures l.0 l.1 in
+    let is = c.ceiling_at-level.ensures l.0 l.1 in
     let late = c.if-length-slack.false in
     let critical = c.in-Critical.is in
     let p = c.at-plateau.result in
-    let flat = flat_now k g.met.B.Bank.lawful b i row l t c.ceiling-at-level.result c.args.seen p late critical c.requires.watched is c.at-plateau.ensures in
+    let flat = flat_now k g.met.B.Bank.lawful b i row l t c.ceiling_at-level.result c.args.seen p late critical c.requires.watched is c.at-plateau.ensures in
     let closed = plateau_share row (k.ceiling b i) w critical (listed_ceiling k g.met.B.Bank.lawful b i row l).rises t p.start p.level late flat in
-    let level : p.level ≡ c.ceiling-at-level.result = flat.value ∙ sym (back_after (k.ceiling b i) t (slack row) late) ∙ sym is in
-    let small = asked_product k g.met.B.Bank.lawful b i row l t (slack row) c.ceiling-at-level.result row.certain c.requires.within is (certain_fits w critical) in
+    let level : p.level ≡ c.ceiling_at-level.result = flat.value ∙ sym (back_after (k.ceiling b i) t (slack row) late) ∙ sym is in
+    let small = asked_product k g.met.B.Bank.lawful b i row l t (slack row) c.ceiling_at-level.result row.certain c.requires.within is (certain_fits w critical) in
     let product = ap (λ (n : ℕ). n * row.certain) level in
     record {
-      value = omega (arith, c.less-done.ensures);
-      bound = omega (arith, c.less-done.ensures);
+      value = omega (arith, c.less_done.ensures);
+      bound = omega (arith, c.less_done.ensures);
       watched = λ _. flat_seen (k.ceiling b i) (t - slack row) (t + 1 - slack row) p flat (omega arith);
     }

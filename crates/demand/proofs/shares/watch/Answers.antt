@@ -9,8 +9,8 @@ returns-then-length-known g c =
 
 pub returns : goal.returns
 returns g c =
-    let asked = c.overrun-share-share.ensures in
-    let lasts = c.overrun-end-end.ensures in
+    let asked = c.overrun_share-share.ensures in
+    let lasts = c.overrun_end-end.ensures in
     record {
       value = asked.value;
       kept = record {

@@ -6,8 +6,8 @@ use Rattle.table.specs.declared.shared.State.{State}
 use Rattle.table.proofs.Phases.{phased_push}
 use Rattle.table.proofs.phasing.Raster.grow.Goals as goal
 
-pub invariant-of-self : goal.invariant-of-self
-invariant-of-self c =
+pub invariant_of-self : goal.invariant_of-self
+invariant_of-self c =
     let b = c.args.self.now in
     let states = states_of b.table in
     let stream = c.args.stream in

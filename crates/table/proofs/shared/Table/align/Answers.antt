@@ -7,8 +7,8 @@ use Rattle.table.proofs.Phases.{Awaits, waited_aligned, phased_at}
 use Rattle.table.proofs.Waiting.{waited_none, waited_read, waited_size}
 use Rattle.table.proofs.shared.Table.align.Goals as goal
 
-pub first-wait-requires : goal.first-wait-requires
-first-wait-requires c =
+pub first_wait-requires : goal.first_wait-requires
+first_wait-requires c =
     let phases = c.args.phases.now in
     let i = c.loop-at.at in
     let t = c.loop-at.self in
@@ -30,9 +30,9 @@ loop-at-preserved c =
     let t = c.loop-at.self in
     let here : i < length (states_of t) = omega arith in
     let s = c.index.result.now in
-    let P : ℕ → Type 0 = λ gap. Until c.args.moment gap (get_or phases i 0) c.first-wait.result in
-    let until = subst P (ap (λ r. r.gap) c.row.ensures) c.first-wait.ensures in
-    waited_read (Awaits c.args.moment phases) i c.args.self.now t c.set-wait.new.self s _ c.loop-at.invariant here c.index.ensures c.set-wait.ensures.states c.set-wait.ensures.size until
+    let P : ℕ → Type 0 = λ gap. Until c.args.moment gap (get_or phases i 0) c.first_wait.result in
+    let until = subst P (ap (λ r. r.gap) c.row.ensures) c.first_wait.ensures in
+    waited_read (Awaits c.args.moment phases) i c.args.self.now t c.set_wait.new.self s _ c.loop-at.invariant here c.index.ensures c.set_wait.ensures.states c.set_wait.ensures.size until
 
 pub returns : goal.returns
 returns c =

@@ -11,14 +11,14 @@ read_first : (factor n : ℕ) (xs : List State) (i : ℕ) (s : State) → i < le
 read_first factor n xs i s here is =
     at_drop_more (first_short factor n) xs i s here ∙ ap (λ x. first_short factor n (x ∷ drop (i + 1) xs)) (sym is)
 
-pub returns-then-shorten-row-row : goal.returns-then-shorten-row-row
-returns-then-shorten-row-row c =
+pub returns-then-shorten_row-row : goal.returns-then-shorten_row-row
+returns-then-shorten_row-row c =
     let factor = c.args.factor in
     let n = c.loop-state.stream in
     let items = c.deref-state-items.result.now in
     let i = c.loop-state.state-index in
     let s = c.state-item.result in
-    let short_is : c.shorten-row.result.short ≡ (shortened factor s.stream.row).short = ap (λ row. row.short) (c.shorten-row.ensures ∙ ap (shortened factor) c.row-row.ensures) in
+    let short_is : c.shorten_row.result.short ≡ (shortened factor s.stream.row).short = ap (λ row. row.short) (c.shorten_row.ensures ∙ ap (shortened factor) c.row-row.ensures) in
     let budget_is : c.row-row.result.budget ≡ s.stream.row.budget = ap (λ row. row.budget) c.row-row.ensures in
     let below : (shortened factor s.stream.row).short < s.stream.row.budget = omega arith in
     sym (factor_fits factor (states_of c.args.self.now) (omega arith) (omega arith)
@@ -34,7 +34,7 @@ loop-state-preserved c =
     let items = c.deref-state-items.result.now in
     let i = c.loop-state.state-index in
     let s = c.state-item.result in
-    let short_is : c.shorten-row.result.short ≡ (shortened factor s.stream.row).short = ap (λ row. row.short) (c.shorten-row.ensures ∙ ap (shortened factor) c.row-row.ensures) in
+    let short_is : c.shorten_row.result.short ≡ (shortened factor s.stream.row).short = ap (λ row. row.short) (c.shorten_row.ensures ∙ ap (shortened factor) c.row-row.ensures) in
     let budget_is : c.row-row.result.budget ≡ s.stream.row.budget = ap (λ row. row.budget) c.row-row.ensures in
     let enough : s.stream.row.budget ≤ (shortened factor s.stream.row).short = omega arith in (
       ap (λ k. k + 1) c.loop-state.invariant.0,

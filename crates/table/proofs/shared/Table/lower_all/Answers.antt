@@ -12,8 +12,8 @@ loop-at-preserved c =
     let t = c.loop-at.self in
     let here : i < length (states_of t) = omega arith in
     let s = c.index-state.result.now in
-    let fits : c.saturating-sub.result ≡ s.wait - 1 = omega arith in
-    waited_read (λ k s wait. wait ≡ s.wait - 1) i c.args.self.now t c.set-wait.new.self s _ c.loop-at.invariant here c.index-state.ensures c.set-wait.ensures.states c.set-wait.ensures.size fits
+    let fits : c.saturating_sub.result ≡ s.wait - 1 = omega arith in
+    waited_read (λ k s wait. wait ≡ s.wait - 1) i c.args.self.now t c.set_wait.new.self s _ c.loop-at.invariant here c.index-state.ensures c.set_wait.ensures.states c.set_wait.ensures.size fits
 
 pub returns : goal.returns
 returns c =

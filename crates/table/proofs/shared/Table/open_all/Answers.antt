@@ -12,7 +12,7 @@ loop-at-preserved c =
     let t = c.loop-at.self in
     let here : i < length (states_of t) = omega arith in
     let there = state_there (states_of t) i here in
-    waited_more (λ k s wait. wait ≡ 0) i c.args.self.now t c.set-wait.new.self there.0 _ c.loop-at.invariant here there.1 c.set-wait.ensures.states c.set-wait.ensures.size refl
+    waited_more (λ k s wait. wait ≡ 0) i c.args.self.now t c.set_wait.new.self there.0 _ c.loop-at.invariant here there.1 c.set_wait.ensures.states c.set_wait.ensures.size refl
 
 pub returns : goal.returns
 returns c =

@@ -9,8 +9,8 @@ pub returns : goal.returns
 returns c =
     let states = states_of c.args.self.now in
     let at = c.args.at in
-    let x = c.index-mut.result.now in
+    let x = c.index_mut.result.now in
     record {
-      states = λ s is. ap (λ (x : State). set states at (waiting c.args.wait x)) (place_read states at s x c.requires c.index-mut.ensures.value is);
+      states = λ s is. ap (λ (x : State). set states at (waiting c.args.wait x)) (place_read states at s x c.requires c.index_mut.ensures.value is);
       size = (length-set states at (waiting c.args.wait x), refl);
     }

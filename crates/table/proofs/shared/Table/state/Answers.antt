@@ -10,5 +10,5 @@ pub returns : goal.returns
 returns c =
     let states = states_of c.args.self.now in
     let i = c.args.stream in
-    let found : option_map (λ x. x.now) c.get.result ≡ slice_get states (i - 1) = search (rules, c.in-ok-at.ensures, slice_get-get_or, slice_get_past) in
-    found ∙ sym (state_at states i c.in-ok-at.ensures.0)
+    let found : option_map (λ x. x.now) c.get.result ≡ slice_get states (i - 1) = search (rules, c.in_ok-at.ensures, slice_get-get_or, slice_get_past) in
+    found ∙ sym (state_at states i c.in_ok-at.ensures.0)

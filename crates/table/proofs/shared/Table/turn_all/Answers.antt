@@ -13,8 +13,8 @@ loop-at-preserved c =
     let t = c.loop-at.self in
     let here : i < length (states_of t) = omega arith in
     let s = c.index.result.now in
-    let fits : c.wait-after.result ≡ next_wait s.wait s.stream.row.gap = c.wait-after.ensures ∙ ap (λ r. next_wait s.wait r.gap) c.row.ensures in
-    waited_read (λ k s wait. wait ≡ next_wait s.wait s.stream.row.gap) i c.args.self.now t c.set-wait.new.self s _ c.loop-at.invariant here c.index.ensures c.set-wait.ensures.states c.set-wait.ensures.size fits
+    let fits : c.wait_after.result ≡ next_wait s.wait s.stream.row.gap = c.wait_after.ensures ∙ ap (λ r. next_wait s.wait r.gap) c.row.ensures in
+    waited_read (λ k s wait. wait ≡ next_wait s.wait s.stream.row.gap) i c.args.self.now t c.set_wait.new.self s _ c.loop-at.invariant here c.index.ensures c.set_wait.ensures.states c.set_wait.ensures.size fits
 
 pub returns : goal.returns
 returns c =

@@ -15,8 +15,8 @@ same_table b t few room phased e = subst P (sym e) (λ few room phased. λ i. re
     P : Table → Type 0
     P t = (few : length (states_of t) ≤ 32) (room : 32 ≤ vec_capacity t.states) (phased : Phased b.phases (states_of t)) → ◌≡◌ {A = Raster} (record { table = t; phases = b.phases; few = few; room = room; phased = phased }) b
 
-pub invariant-of-self : goal.invariant-of-self
-invariant-of-self c =
+pub invariant_of-self : goal.invariant_of-self
+invariant_of-self c =
     let b = c.args.self.now in
     raster_stays b c.accept.new.self (accepting_keeps b.table c.accept.new.self c.args.stream c.accept.result c.accept.ensures.answer) c.accept.ensures.size
 

@@ -4,8 +4,8 @@ use Rattle.table.specs.Keeping.{aligning_keeps, raster_stays}
 use Rattle.table.proofs.Phases.{aligned_by_own}
 use Rattle.table.proofs.phasing.banking.RasterBank.begin.Goals as goal
 
-pub invariant-of-self : goal.invariant-of-self
-invariant-of-self c =
+pub invariant_of-self : goal.invariant_of-self
+invariant_of-self c =
     let b = c.args.self.now in
     raster_stays b c.align.new.self (aligning_keeps c.args.moment b.phases (states_of b.table) (states_of c.align.new.self) c.align.ensures.states) c.align.ensures.size
 

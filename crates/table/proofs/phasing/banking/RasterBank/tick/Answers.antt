@@ -4,10 +4,10 @@ use Rattle.table.specs.Tables.{states_of}
 use Rattle.table.specs.Keeping.{waits_keep, raster_stays}
 use Rattle.table.proofs.phasing.banking.RasterBank.tick.Goals as goal
 
-pub invariant-of-self : goal.invariant-of-self
-invariant-of-self c =
+pub invariant_of-self : goal.invariant_of-self
+invariant_of-self c =
     let b = c.args.self.now in
-    raster_stays b c.turn-all.new.self (waits_keep (λ s. next_wait s.wait s.stream.row.gap) (states_of b.table) (states_of c.turn-all.new.self) c.turn-all.ensures.states) c.turn-all.ensures.size
+    raster_stays b c.turn_all.new.self (waits_keep (λ s. next_wait s.wait s.stream.row.gap) (states_of b.table) (states_of c.turn_all.new.self) c.turn_all.ensures.states) c.turn_all.ensures.size
 
 pub returns : goal.returns
-returns c = (c.turn-all.ensures.states, ap (λ n. take n c.args.self.now.phases) c.turn-all.ensures.size.0)
+returns c = (c.turn_all.ensures.states, ap (λ n. take n c.args.self.now.phases) c.turn_all.ensures.size.0)
