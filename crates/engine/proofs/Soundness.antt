@@ -177,9 +177,6 @@ sound_after s sound (Of i) out done = by_job (job_of s.jobs i) refl
     by_job None e = sound_ticked s sound (Of i) out
     by_job (Some j) e = let place = sound.2 i out in sound_ended s sound (Of i) out i place.0 place.1 j e (end_of s.mode j done)
 
--- the same, as the fields of an engine
-abbrev pub Fields : State → Type 0
-Fields s = (length s.jobs ≡ 32) × (Early s × (Placed s × (Worked s × (Near s × (Tallied s × Unit {0})))))
-
-pub fields : (s t : State) → t ≡ s → Sound s → Fields t
-fields s t e (room, early, placed, used, near, tallied) = subst Fields (sym e) (room, (early, (placed, (used, (near, (tallied, tt))))))
+-- what is sound stays so under another name
+pub fields : (s t : State) → t ≡ s → Sound s → Sound t
+fields s t e sound = subst Sound (sym e) sound

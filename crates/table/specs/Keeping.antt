@@ -90,6 +90,6 @@ accepted_over letter table begins ticks accepts b c i answer same closes a = rec
 }
 
 -- a raster that keeps its streams is still one
-pub raster_stays : (b : Raster) (t : Table) → Keeps (states_of b.table) (states_of t) → SameSize b.table t → (length (states_of t) ≤ 32) × ((32 ≤ vec_capacity t.states) × (Phased b.phases (states_of t) × Unit {0}))
+pub raster_stays : (b : Raster) (t : Table) → Keeps (states_of b.table) (states_of t) → SameSize b.table t → (length (states_of t) ≤ 32) × (32 ≤ vec_capacity t.states) × Phased b.phases (states_of t)
 raster_stays b t keeps size =
-    (omega (arith, b.few, keeps.size), (omega (arith, b.room, size.1), (phased_kept b.phases (states_of b.table) (states_of t) keeps b.phased, tt)))
+    (omega (arith, b.few, keeps.size), omega (arith, b.room, size.1), phased_kept b.phases (states_of b.table) (states_of t) keeps b.phased)

@@ -7,10 +7,10 @@ use Rattle.turns.specs.declared.State.{State}
 use Rattle.turns.proofs.Lasting.{none_late}
 use Rattle.turns.proofs.begin.Goals as goal
 
-pub returns-then-moment-gt-LAST-MOMENT : goal.returns-then-moment-gt-LAST-MOMENT
-returns-then-moment-gt-LAST-MOMENT g c =
+pub returns-then-moment-gt-LAST_MOMENT : goal.returns-then-moment-gt-LAST_MOMENT
+returns-then-moment-gt-LAST_MOMENT g c =
     let k = g.B.Bank.kind in
-    let late = c.if-moment-gt-LAST-MOMENT.true in
+    let late = c.if-moment-gt-LAST_MOMENT.true in
     let started : Started k c.args.bank.now c.args.moment c.args.bank.now c.new.result = record {
       late = λ _. (refl, c.new.ensures);
       begun = λ l. let z : ⊥ = omega arith in absurd z;
@@ -20,7 +20,7 @@ returns-then-moment-gt-LAST-MOMENT g c =
 pub returns : goal.returns
 returns g c =
     let k = g.B.Bank.kind in
-    let early = c.if-moment-gt-LAST-MOMENT.false in
+    let early = c.if-moment-gt-LAST_MOMENT.false in
     let is = c.new-2.ensures in
     let verdict : c.new-2.result.verdict ≡ c.admit-verdict.result = ap (λ (s : State). s.verdict) is in
     let started : Started k c.args.bank.now c.args.moment c.begin.new.self c.new-2.result = record {

@@ -4,8 +4,8 @@ use Rattle.turns.specs.declared.State.{State}
 use Rattle.engine.proofs.Tallying.{byte_few, counted_few, dropped_all, dropped_more}
 use Rattle.engine.proofs.settling.begin_overrun.Goals as goal
 
-pub overflow-add-state : goal.overflow-add-state
-overflow-add-state c =
+pub overflow_add-state : goal.overflow_add-state
+overflow_add-state c =
     let s = c.args.state.now in
     let room = c.requires.room in
     let few = c.requires.few in

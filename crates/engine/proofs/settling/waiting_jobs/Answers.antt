@@ -2,11 +2,11 @@ use Rattle.std.proofs.Common.{◌≡◌, is_some, sym, refl, ap, ◌∙◌, subs
 use Rattle.engine.proofs.Tallying.{byte_few, counted_all, counted_few, counted_more}
 use Rattle.engine.proofs.settling.waiting_jobs.Goals as goal
 
-pub overflow-add-waiting : goal.overflow-add-waiting
-overflow-add-waiting c =
+pub overflow_add-waiting : goal.overflow_add-waiting
+overflow_add-waiting c =
     let room = c.requires in
     let less = c.loop-at-test.true in
-    let one = byte_few c.is-some.result in
+    let one = byte_few c.is_some.result in
     let few = counted_few is_some c.args.state.now.jobs c.loop-at.at room (omega arith) in
     let inv = c.loop-at.invariant in
     omega arith
@@ -15,7 +15,7 @@ pub loop-at-preserved : goal.loop-at-preserved
 loop-at-preserved c =
     let room = c.requires in
     let less = c.loop-at-test.true in
-    counted_more is_some c.args.state.now.jobs c.loop-at.at c.loop-at.waiting c.is-some.result (omega arith) c.is-some.ensures c.loop-at.invariant
+    counted_more is_some c.args.state.now.jobs c.loop-at.at c.loop-at.waiting c.is_some.result (omega arith) c.is_some.ensures c.loop-at.invariant
 
 pub returns : goal.returns
 returns c =

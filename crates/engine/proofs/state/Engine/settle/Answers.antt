@@ -3,9 +3,10 @@ use Rattle.turns.specs.Steps.{after_turn, runner}
 use Rattle.engine.proofs.Soundness.{fields, sound_after}
 use Rattle.engine.proofs.state.Engine.settle.Goals as goal
 
-pub invariant-of-self : goal.invariant-of-self
-invariant-of-self g c =
+pub invariant_of-self : goal.invariant_of-self
+invariant_of-self g c =
     let e = c.args.self.now in
     let s = e.state in
     let turn = c.in-Some.turn in
-    fields (after_turn s (runner (Some turn) s.jobs) c.args.done) c.settle-turn-settled.new.state c.settle-turn-settled.ensures.after (sound_after s (e.room, e.early, e.placed, e.worked, e.near, e.tallied) turn c.in-Some.is c.args.done)
+    let kept = fields (after_turn s (runner (Some turn) s.jobs) c.args.done) c.settle_turn-settled.new.state c.settle_turn-settled.ensures.after (sound_after s (e.room, e.early, e.placed, e.worked, e.near, e.tallied) turn c.in-Some.is c.args.done) in
+    record { room = kept.0; early = kept.1; placed = kept.2; worked = kept.3; near = kept.4; tallied = kept.5 }

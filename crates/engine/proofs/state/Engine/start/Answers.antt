@@ -8,11 +8,13 @@ use Rattle.engine.specs.Sound.{Sound}
 use Rattle.engine.proofs.Soundness.{fields, sound_fresh}
 use Rattle.engine.proofs.state.Engine.start.Goals as goal
 
-pub invariant-of-result : goal.invariant-of-result
-invariant-of-result g c =
+pub invariant_of-result : goal.invariant_of-result
+invariant_of-result g c =
     let started = c.begin-state.ensures.started in
     let moment = c.args.moment in
+    let kept : Sound c.begin-state.result =
     ⊎_elim
     (λ (late : last_moment < moment). let is = (started.late late).1 in fields _ c.begin-state.result is (sound_fresh moment (Err MomentTooLate) (λ z. absurd (clash (sym z)))))
     (λ (early : moment ≤ last_moment). let is = (started.begun early).2 in fields _ c.begin-state.result is (sound_fresh moment _ (λ _. early)))
-    (cases_lt last_moment moment)
+    (cases_lt last_moment moment) in
+    record { room = kept.0; early = kept.1; placed = kept.2; worked = kept.3; near = kept.4; tallied = kept.5 }

@@ -16,13 +16,11 @@ invariant_of-self c =
     let below : phase < stream.row.gap = omega (arith, ap (λ r. r.gap) c.row.ensures) in
     let P : List State → Type 0 = λ xs. Phased (set b.phases (length states) phase) xs in
     let Q : ℕ → Type 0 = λ n. Phased (set b.phases n phase) (states_of c.push.new.self) in
-    let size : length (states_of c.push.new.self) ≡ length states + 1 = ap length c.push.ensures.states ∙ length_push states (fresh stream) in (
-      omega arith,
-      (
-        omega (arith, b.room, c.push.ensures.room),
-        (subst Q (sym c.streams-streams.ensures) (subst P (sym c.push.ensures.states) (phased_push b.phases states stream phase b.phased places below)), tt),
-      ),
-    )
+    let size : length (states_of c.push.new.self) ≡ length states + 1 = ap length c.push.ensures.states ∙ length_push states (fresh stream) in record {
+      few = omega arith;
+      room = omega (arith, b.room, c.push.ensures.room);
+      phased = subst Q (sym c.streams-streams.ensures) (subst P (sym c.push.ensures.states) (phased_push b.phases states stream phase b.phased places below));
+    }
 
 pub returns : goal.returns
 returns c =

@@ -3,42 +3,42 @@ use Rattle.text.proofs.Exits.{nothing_comes, comes, never_comes, exits, part_exi
 use Rattle.text.proofs.Calling.{at_call, call_release, call_turn, call_calm, call_kind}
 use Rattle.text.proofs.cursor.Cursor.call.Goals as goal
 
-pub returns-in-err-word : goal.returns-in-err-word
-returns-in-err-word c =
-    part_exits c.from-residual.result _ c.from-residual.ensures.1 c.in-err-word.ensures (at_call _)
+pub returns-in_err-word : goal.returns-in_err-word
+returns-in_err-word c =
+    part_exits c.from_residual.result _ c.from_residual.ensures.1 c.in_err-word.ensures (at_call _)
 
-pub returns-in-err-peek : goal.returns-in-err-peek
-returns-in-err-peek c =
-    let none = c.in-err-peek.ensures in
-    exits c.from-residual-in-err-peek.result _ c.from-residual-in-err-peek.ensures.1
-    (record { left = _; leaves = call_kind _ _ _ c.in-ok-word.ensures (nothing_comes _ 114 none.0) (nothing_comes _ 116 none.0) (nothing_comes _ 99 none.0) refl; place = none.1 })
+pub returns-in_err-peek : goal.returns-in_err-peek
+returns-in_err-peek c =
+    let none = c.in_err-peek.ensures in
+    exits c.from_residual-in_err-peek.result _ c.from_residual-in_err-peek.ensures.1
+    (record { left = _; leaves = call_kind _ _ _ c.in_ok-word.ensures (nothing_comes _ 114 none.0) (nothing_comes _ 116 none.0) (nothing_comes _ 99 none.0) refl; place = none.1 })
 
-pub returns-in-err-numbered : goal.returns-in-err-numbered
-returns-in-err-numbered c =
-    let next = c.in-ok-peek.ensures in
-    let kind : c.in-ok-peek.field-0 ≡ 114 = search rules in
-    part_exits c.from-residual-in-err-numbered.result _ c.from-residual-in-err-numbered.ensures.1 c.in-err-numbered.ensures (λ k. call_release _ _ next.0 k c.in-ok-word.ensures (comes _ next.0 _ 114 next.1 kind))
+pub returns-in_err-numbered-in-r : goal.returns-in_err-numbered-in-r
+returns-in_err-numbered-in-r c =
+    let next = c.in_ok-peek.ensures in
+    let kind : c.in_ok-peek.field-0 ≡ 114 = search rules in
+    part_exits c.from_residual-in_err-numbered-in-r.result _ c.from_residual-in_err-numbered-in-r.ensures.1 c.in_err-numbered-in-r.ensures (λ k. call_release _ _ next.0 k c.in_ok-word.ensures (comes _ next.0 _ 114 next.1 kind))
 
-pub returns-in-err-turn : goal.returns-in-err-turn
-returns-in-err-turn c =
-    let next = c.in-ok-peek.ensures in
-    let kind : c.in-ok-peek.field-0 ≡ 116 = search rules in
-    part_exits c.from-residual-in-err-turn.result _ c.from-residual-in-err-turn.ensures.1 c.in-err-turn.ensures (λ k. call_turn _ _ next.0 k c.in-ok-word.ensures (comes _ next.0 _ 116 next.1 kind))
+pub returns-in_err-turn-in-t : goal.returns-in_err-turn-in-t
+returns-in_err-turn-in-t c =
+    let next = c.in_ok-peek.ensures in
+    let kind : c.in_ok-peek.field-0 ≡ 116 = search rules in
+    part_exits c.from_residual-in_err-turn-in-t.result _ c.from_residual-in_err-turn-in-t.ensures.1 c.in_err-turn-in-t.ensures (λ k. call_turn _ _ next.0 k c.in_ok-word.ensures (comes _ next.0 _ 116 next.1 kind))
 
-pub returns-in-err-word-2 : goal.returns-in-err-word-2
-returns-in-err-word-2 c =
-    let next = c.in-ok-peek.ensures in
-    let kind : c.in-ok-peek.field-0 ≡ 99 = search rules in
-    part_exits c.from-residual-in-err-word-2.result _ c.from-residual-in-err-word-2.ensures.1 c.in-err-word-2.ensures (λ k. call_calm _ _ next.0 k c.in-ok-word.ensures (comes _ next.0 _ 99 next.1 kind))
+pub returns-in_err-word-in-c : goal.returns-in_err-word-in-c
+returns-in_err-word-in-c c =
+    let next = c.in_ok-peek.ensures in
+    let kind : c.in_ok-peek.field-0 ≡ 99 = search rules in
+    part_exits c.from_residual-in_err-word-in-c.result _ c.from_residual-in_err-word-in-c.ensures.1 c.in_err-word-in-c.ensures (λ k. call_calm _ _ next.0 k c.in_ok-word.ensures (comes _ next.0 _ 99 next.1 kind))
 
-pub returns-in-default : goal.returns-in-default
-returns-in-default c =
-    let next = c.in-ok-peek.ensures in
-    let r : c.in-ok-peek.field-0 ≡ 114 → ⊥ = λ e. search rules in
-    let t : c.in-ok-peek.field-0 ≡ 116 → ⊥ = λ e. search rules in
-    let m : c.in-ok-peek.field-0 ≡ 99 → ⊥ = λ e. search rules in
+pub returns-in_default : goal.returns-in_default
+returns-in_default c =
+    let next = c.in_ok-peek.ensures in
+    let r : c.in_ok-peek.field-0 ≡ 114 → ⊥ = λ e. search rules in
+    let t : c.in_ok-peek.field-0 ≡ 116 → ⊥ = λ e. search rules in
+    let m : c.in_ok-peek.field-0 ≡ 99 → ⊥ = λ e. search rules in
     record {
       left = _;
-      leaves = call_kind _ _ _ c.in-ok-word.ensures (never_comes _ next.0 _ 114 next.1 r) (never_comes _ next.0 _ 116 next.1 t) (never_comes _ next.0 _ 99 next.1 m) refl;
+      leaves = call_kind _ _ _ c.in_ok-word.ensures (never_comes _ next.0 _ 114 next.1 r) (never_comes _ next.0 _ 116 next.1 t) (never_comes _ next.0 _ 99 next.1 m) refl;
       place = c.misfit.ensures;
     }

@@ -6,9 +6,9 @@ use Rattle.text.proofs.cursor.Cursor.digits.Goals as goal
 
 pub returns-then-len-eq0 : goal.returns-then-len-eq0
 returns-then-len-eq0 c =
-    let none : Numeral c.args.self.now.rest.now 0 = subst (λ (n : ℕ). Numeral c.args.self.now.rest.now n) c.if-len-eq0.true c.numeral-len-len.ensures in
+    let none : Numeral c.args.self.now.rest.now 0 = subst (λ (n : ℕ). Numeral c.args.self.now.rest.now n) c.if-len-eq0.true c.numeral_len-len.ensures in
     (no_digit c.args.self.now.rest.now none, c.misfit.ensures)
 
 pub returns : goal.returns
 returns c =
-    counted c.args.self.now.rest.now c.numeral-len-len.result _ _ c.numeral-len-len.ensures c.if-len-eq0.false c.numeral-value-value.ensures (take_rest c.args.self.now.rest.now c.numeral-len-len.result)
+    counted c.args.self.now.rest.now c.numeral_len-len.result _ _ c.numeral_len-len.ensures c.if-len-eq0.false c.numeral_value-value.ensures (take_rest c.args.self.now.rest.now c.numeral_len-len.result)

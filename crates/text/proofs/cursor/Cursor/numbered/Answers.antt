@@ -6,9 +6,9 @@ use Rattle.text.proofs.Grammar.{prefix_read}
 use Rattle.text.proofs.Lining.{at_numbered}
 use Rattle.text.proofs.cursor.Cursor.numbered.Goals as goal
 
-pub returns-in-err-word : goal.returns-in-err-word
-returns-in-err-word c =
-    part_exits c.from-residual.result _ c.from-residual.ensures.1 c.in-err-word.ensures (at_numbered c.args.word.now _)
+pub returns-in_err-word : goal.returns-in_err-word
+returns-in_err-word c =
+    part_exits c.from_residual.result _ c.from_residual.ensures.1 c.in_err-word.ensures (at_numbered c.args.word.now _)
 
 pub returns : goal.returns
-returns c = prefix_read c.args.word.now (closed (codes ")\n")) Small c.args.origin c.number.result _ _ _ c.in-ok-word.ensures c.number.ensures
+returns c = prefix_read c.args.word.now (closed (codes ")\n")) Small c.args.origin c.number.result _ _ _ c.in_ok-word.ensures c.number.ensures

@@ -5,9 +5,9 @@ use Rattle.text.proofs.Grammar.{prefix_read}
 use Rattle.text.proofs.Lining.{at_sporadic}
 use Rattle.text.proofs.cursor.Cursor.sporadic.Goals as goal
 
-pub returns-in-err-word : goal.returns-in-err-word
-returns-in-err-word c =
-    part_exits c.from-residual.result _ c.from-residual.ensures.1 c.in-err-word.ensures (at_sporadic _)
+pub returns-in_err-word : goal.returns-in_err-word
+returns-in_err-word c =
+    part_exits c.from_residual.result _ c.from_residual.ensures.1 c.in_err-word.ensures (at_sporadic _)
 
 pub returns : goal.returns
-returns c = prefix_read (codes "S ") (row_bytes (codes ")\n")) SmallRow c.args.origin c.row.result _ _ _ c.in-ok-word.ensures c.row.ensures
+returns c = prefix_read (codes "S ") (row_bytes (codes ")\n")) SmallRow c.args.origin c.row.result _ _ _ c.in_ok-word.ensures c.row.ensures

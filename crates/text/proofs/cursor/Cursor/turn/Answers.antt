@@ -5,9 +5,9 @@ use Rattle.text.proofs.Exits.{part_exits}
 use Rattle.text.proofs.Grammar.{prefix_read}
 use Rattle.text.proofs.cursor.Cursor.turn.Goals as goal
 
-pub returns-in-err-word : goal.returns-in-err-word
-returns-in-err-word c =
-    part_exits c.from-residual.result _ c.from-residual.ensures.1 c.in-err-word.ensures (at_turn _)
+pub returns-in_err-word : goal.returns-in_err-word
+returns-in_err-word c =
+    part_exits c.from_residual.result _ c.from_residual.ensures.1 c.in_err-word.ensures (at_turn _)
 
 pub returns : goal.returns
-returns c = prefix_read (codes "turn ") report_bytes (λ _. Unit {0}) c.args.origin c.report.result _ _ _ c.in-ok-word.ensures c.report.ensures
+returns c = prefix_read (codes "turn ") report_bytes (λ _. Unit {0}) c.args.origin c.report.result _ _ _ c.in_ok-word.ensures c.report.ensures

@@ -10,13 +10,13 @@ one_more bytes s t u i lt e h =
     e ∙ ap (λ (x : List ℕ). take i bytes ++ x) h ∙ sym (append_assoc (take i bytes) (get_or bytes i 0 ∷ []) u)
     ∙ ap (λ (x : List ℕ). x ++ u) (sym (take_more bytes i 0 lt))
 
-pub returns-in-err-byte : goal.returns-in-err-byte
-returns-in-err-byte c =
-    let p = err_from_is_err_and c.from-residual.result c.from-residual.ensures.1 in
-    rw (p.1, p.2) (record { left = _; leaves = leaves_exactly _ _ _ c.loop-b.b-index _ c.loop-b-test.true c.loop-b.invariant c.in-err-byte.ensures.0 refl; place = c.in-err-byte.ensures.1 })
+pub returns-in_err-byte : goal.returns-in_err-byte
+returns-in_err-byte c =
+    let p = err_from_is_err_and c.from_residual.result c.from_residual.ensures.1 in
+    rw (p.1, p.2) (record { left = _; leaves = leaves_exactly _ _ _ c.loop-b.b-index _ c.loop-b-test.true c.loop-b.invariant c.in_err-byte.ensures.0 refl; place = c.in_err-byte.ensures.1 })
 
 pub loop-b-preserved : goal.loop-b-preserved
-loop-b-preserved c = one_more _ _ _ _ c.loop-b.b-index c.loop-b-test.true c.loop-b.invariant c.in-ok-byte.ensures
+loop-b-preserved c = one_more _ _ _ _ c.loop-b.b-index c.loop-b-test.true c.loop-b.invariant c.in_ok-byte.ensures
 
 pub returns : goal.returns
 returns c = c.loop-b.invariant ∙ ap (λ (x : List ℕ). x ++ ahead c.loop-b.self) (take_all c.loop-b.b-index c.args.word.now c.loop-b-test.false)

@@ -18,7 +18,8 @@ same_table b t few room phased e = subst P (sym e) (λ few room phased. λ i. re
 pub invariant_of-self : goal.invariant_of-self
 invariant_of-self c =
     let b = c.args.self.now in
-    raster_stays b c.accept.new.self (accepting_keeps b.table c.accept.new.self c.args.stream c.accept.result c.accept.ensures.answer) c.accept.ensures.size
+    let stays = raster_stays b c.accept.new.self (accepting_keeps b.table c.accept.new.self c.args.stream c.accept.result c.accept.ensures.answer) c.accept.ensures.size in
+    record { few = stays.0; room = stays.1; phased = stays.2 }
 
 pub returns : goal.returns
 returns c =
