@@ -8,7 +8,7 @@ use Rattle.stream.specs.declared.Verdict.{Verdict}
 use Rattle.bank.specs.Kinds.{Kind}
 use Rattle.bank.specs.Laws.{Laws}
 use Rattle.demand.specs.Demands.{Feasible}
-use Rattle.demand.specs.Verdicts.{InReach, Looked, Exceeds, Far, Refuses, Says, Judged}
+use Rattle.demand.specs.Verdicts.{InReach, Accepts, Exceeds, Far, Refuses, Judged, Says, Decided}
 use Rattle.demand.proofs.Beyond.{fits_beyond}
 use Rattle.demand.proofs.Uniqueness.{exceeded, not_far, one_accepted, one_exceeded}
 
@@ -83,7 +83,7 @@ module _ {S : Type 0} (k : Kind S) (b : S) where
   feasible_ok h reach fits (Ok v) a = refl
   feasible_ok h reach fits (Err e) r = absurd (not_refused h reach fits e (reason k b e r))
 
-  pub judged : (answer : Result Verdict Refusal) → Says k b answer → Judged k b answer
+  pub judged : (answer : Result Verdict Refusal) → Says k b answer → Decided k b answer
   judged answer says = record {
     says = says;
     exactly = record {
@@ -95,6 +95,10 @@ module _ {S : Type 0} (k : Kind S) (b : S) where
     };
   }
 
-  pub scanned : Laws k → (answer : Result Verdict Refusal) → MatchResult answer (λ v. Looked k b v) (λ e. Refuses k b e) → Judged k b answer
+  pub seen : (answer : Result Verdict Refusal) → MatchResult answer (λ v. Accepts k b v) (λ e. Refuses k b e) → Judged k b answer
+  seen (Ok v) accepts = accepts
+  seen (Err e) refuses = refuses
+
+  pub scanned : Laws k → (answer : Result Verdict Refusal) → MatchResult answer (λ v. Accepts k b v) (λ e. Refuses k b e) → Decided k b answer
   scanned laws (Ok v) looked = judged (Ok v) (record { looked = looked; feasible = fits_beyond k b (laws.ceilings b) v.horizon looked.reach.horizon.common looked.fits })
   scanned laws (Err e) refuses = judged (Err e) refuses

@@ -1,7 +1,8 @@
 -- Shares that stay the same for a while, and what is kept of each stream.
 
-use Rattle.std.proofs.Common.{◌≡◌, ℕ, ◌+◌, ◌-◌, ◌*◌, ◌^◌, ◌<◌, ◌≤◌, ◌≢◌, List, length, get_or, set, replicate, sym, refl, ap, ◌∙◌, subst, ⊎_elim, arith}
+use Rattle.std.proofs.Common.{◌≡◌, ℕ, ◌+◌, ◌-◌, ◌*◌, ◌^◌, ◌<◌, ◌≤◌, ◌≢◌, List, length, get_or, set, replicate, map, sym, refl, ap, ◌∙◌, subst, ⊎_elim, arith}
 use Rattle.std.proofs.lemmas.List.{get_or-set_same, get_or-set_other, get_or_default, get_or-replicate}
+use Rattle.std.proofs.Math.ListN.{get_or-map}
 use Rattle.std.proofs.lemmas.Bool.{cases_lt}
 use Rattle.stream.specs.Limits.{Within}
 use Rattle.stream.specs.declared.Class.TheVariants.{Critical, Background}
@@ -13,7 +14,7 @@ use Rattle.demand.specs.declared.Plateau.{Plateau}
 use Rattle.demand.specs.declared.Steady.{Steady}
 use Rattle.demand.specs.declared.Watch.{Watch}
 use Rattle.demand.specs.Shares.{normal_share, overrun_share, slack}
-use Rattle.demand.specs.Watching.{Flat, Seen, Watched, Holds, Kept, Each, DueFrom, KeptFrom}
+use Rattle.demand.specs.Watching.{Flat, Seen, Watched, WatchedFrom, Holds, Kept, Each, DueFrom, KeptFrom}
 use Rattle.demand.proofs.Plateaus.{plateau_share, share_before_slack}
 use Rattle.demand.proofs.Watches.{flat_seen}
 
@@ -131,3 +132,10 @@ kept_none k b rows n few =
       share = record { is = λ q from before. let z : ⊥ = omega arith in absurd z; small = omega arith };
       stays = λ q from before. let z : ⊥ = omega arith in absurd z;
     })
+
+-- what is kept of the streams has the plateau of each
+pub kept_watched : {S : Type 0} (k : Kind S) (b : S) (rows : List Row) (from n t : ℕ) (items : List Watch) → KeptFrom k b rows from n t items → WatchedFrom k b rows from n t (map (λ w. w.plateau) items)
+kept_watched k b rows from n t items kept i d e low high =
+    let unknown : Watch = record { plateau = e; steady = record { share = 0; end = 0 } } in
+    let P : Plateau → Type 0 = λ p. Watched (get_or rows i d) (k.ceiling b (i + 1)) t p in
+    subst P (sym (get_or-map (λ (w : Watch). w.plateau) items i unknown)) (kept i d unknown low high).watched

@@ -9,7 +9,7 @@ use Rattle.stream.specs.declared.Verdict.{Verdict}
 use Rattle.bank.specs.Kinds.{Kind}
 use Rattle.least.specs.Orders.{lexical, by_margin, by_length, by_phase, stage, point_below}
 use Rattle.demand.specs.Demands.{Fits}
-use Rattle.demand.specs.Verdicts.{point_at, Nearest, InReach, Accepts, ExceedsFirst, Exceeds, Far}
+use Rattle.demand.specs.Verdicts.{point_at, Nearest, InReach, AcceptsAll, ExceedsFirst, Exceeds, Far}
 
 -- points that are not below one another have one length and one phase
 after_tie : (first second : Point → Point → Bool) (p q : Point) → first q p ≡ false → lexical first second p q ≡ false → second p q ≡ false
@@ -74,7 +74,7 @@ module _ {S : Type 0} (k : Kind S) (b : S) where
       let of : ℕ → ℕ → Point → Verdict = λ h n p. record { horizon = h; lengths = n; point = p } in
       ap (λ (x : ℕ). of x v.lengths v.point) h ∙ ap (λ (x : ℕ). of w.horizon x v.point) n ∙ ap (of w.horizon w.lengths) p
 
-  pub one_accepted : (v w : Verdict) → Accepts k b v → Accepts k b w → v ≡ w
+  pub one_accepted : (v w : Verdict) → AcceptsAll k b v → AcceptsAll k b w → v ≡ w
   one_accepted v w a c =
       let h = one_horizon v.horizon w.horizon a.looked.reach c.looked.reach in
       verdict_of v w h (a.looked.lengths ∙ omega arith ∙ sym c.looked.lengths) (one_nearest w.horizon v.point w.point (subst (λ (x : ℕ). Nearest k b x v.point) h a.looked.nearest) c.looked.nearest)

@@ -30,16 +30,16 @@ pub record InReach {S : Type 0} (k : Kind S) (b : S) (h : ℕ) : Type 0 where
   pub horizon : Horizon k b h
   pub near : h ≤ 1000000
 
--- every length up to the horizon was looked at, and neither demand exceeds any
-pub record Looked {S : Type 0} (k : Kind S) (b : S) (v : Verdict) : Type 0 where
+-- accepted: every length up to the horizon was looked at, and neither demand exceeds any
+pub record Accepts {S : Type 0} (k : Kind S) (b : S) (v : Verdict) : Type 0 where
   pub reach : InReach k b v.horizon
   pub fits : (t : ℕ) → t ≤ v.horizon → Fits k b t
   pub lengths : v.lengths ≡ v.horizon + 1
   pub nearest : Nearest k b v.horizon v.point
 
--- accepted: and neither demand exceeds any length above the horizon
-pub record Accepts {S : Type 0} (k : Kind S) (b : S) (v : Verdict) : Type 0 where
-  pub looked : Looked k b v
+-- accepted at every length: and neither demand exceeds any above the horizon
+pub record AcceptsAll {S : Type 0} (k : Kind S) (b : S) (v : Verdict) : Type 0 where
+  pub looked : Accepts k b v
   pub feasible : Feasible k b
 
 -- the first length that a demand exceeds; normal is looked at first
@@ -86,8 +86,14 @@ Refuses k b AlreadyNormal = ⊥
 Refuses k b Shut = ⊥
 Refuses k b LastMoment = ⊥
 
+-- what the test has seen, up to the horizon
+abbrev pub Judged : {S : Type 0} → Kind S → S → Result Verdict Refusal → Type 0
+Judged k b (Ok v) = Accepts k b v
+Judged k b (Err e) = Refuses k b e
+
+-- what the answer says of every length
 abbrev pub Says : {S : Type 0} → Kind S → S → Result Verdict Refusal → Type 0
-Says k b (Ok v) = Accepts k b v
+Says k b (Ok v) = AcceptsAll k b v
 Says k b (Err e) = Refuses k b e
 
 -- which answer a bank gets
@@ -101,7 +107,7 @@ pub record ExactlyWhen {S : Type 0} (k : Kind S) (b : S) (answer : Result Verdic
   pub only : (other : Result Verdict Refusal) → Says k b other → other ≡ answer
 
 -- what the answer says, and that it is the right one
-pub record Judged {S : Type 0} (k : Kind S) (b : S) (answer : Result Verdict Refusal) : Type 0 where
+pub record Decided {S : Type 0} (k : Kind S) (b : S) (answer : Result Verdict Refusal) : Type 0 where
   pub says : Says k b answer
   pub exactly : ExactlyWhen k b answer
 

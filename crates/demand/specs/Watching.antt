@@ -38,6 +38,10 @@ Listed k b i row = (r : Record) × (k.records b i ≡ Some r) × (r.row ≡ row)
 abbrev pub Rows : {S : Type 0} → Kind S → S → ℕ → List Row → Type 0
 Rows k b n rows = (i : ℕ) (d : Row) → i < n → Listed k b (i + 1) (slice_index_or rows i d)
 
+-- the plateaus from `from` on, of n streams, after t lengths
+abbrev pub WatchedFrom : {S : Type 0} → Kind S → S → List Row → ℕ → ℕ → ℕ → List Plateau → Type 0
+WatchedFrom k b rows from n t ps = (i : ℕ) (d : Row) (e : Plateau) → from ≤ i → i < n → Watched (slice_index_or rows i d) (k.ceiling b (i + 1)) t (slice_index_or ps i e)
+
 -- The share f is steady from length t on, below an end. No share is wider than 37 bits.
 pub record Holds (f : ℕ → ℕ) (t : ℕ) (s : Steady) : Type 0 where
   pub is : (q : ℕ) → t ≤ q → q < s.end → f q ≡ s.share

@@ -5,7 +5,7 @@
 ghost use Rattle.std.specs.Prelude.{◌≡◌, ◌≤◌, MatchResult};
 ghost use Rattle.stream.specs.declared.Phase.TheVariants.{Normal, Overrun};
 ghost use Rattle.demand.specs.Demands.{demand};
-ghost use Rattle.demand.specs.Verdicts.{DemandTold, Judged, Looked, Refuses};
+ghost use Rattle.demand.specs.Verdicts.{Accepts, Decided, DemandTold, Judged, Refuses};
 ghost use Rattle.demand.specs.Watching.{Rows};
 
 use bank::Bank;
@@ -82,14 +82,15 @@ fn rows_of<B: Bank>(bank: &B, streams: u64) -> [Row; 32]
 
 // Whether a bank may run, whatever comes: refused for no stream, more than 32, a horizon above 1,000,000, or the first length that a demand exceeds. No length above the horizon is looked at, since none is worse.
 pub fn admit<B: Bank>(bank: &B) -> Result<Verdict, Refusal>
-    ensures { Judged B.kind bank.now result }
+    ensures judged { Judged B.kind bank.now result }
+    ensures decided { Decided B.kind bank.now result }
 {
     judge(bank)
 }
 
 // The same, as far as the horizon.
 fn judge<B: Bank>(bank: &B) -> Result<Verdict, Refusal>
-    ensures { MatchResult result (λ v. Looked B.kind bank.now v) (λ e. Refuses B.kind bank.now e) }
+    ensures { MatchResult result (λ v. Accepts B.kind bank.now v) (λ e. Refuses B.kind bank.now e) }
 {
     let streams = bank.streams();
     if streams == 0 {

@@ -3,7 +3,7 @@
 ghost use Rattle.std.specs.Prelude.{◌≡◌, ◌+◌, ◌^◌, ◌<◌, ◌≤◌, pos, ◌-ℤ◌, MatchResult, OnOk};
 ghost use Rattle.least.specs.Firsts.{FirstLeast};
 ghost use Rattle.least.specs.Orders.{by_margin, point_below};
-ghost use Rattle.demand.specs.Verdicts.{InReach, Looked, Passes, Refuses, Stops, candidates};
+ghost use Rattle.demand.specs.Verdicts.{InReach, Accepts, Passes, Refuses, Stops, candidates};
 ghost use Rattle.demand.specs.Watching.{DueFrom, KeptFrom, Rows};
 
 use crate::shares::{normal_demand, overrun_demand};
@@ -102,7 +102,7 @@ pub(crate) fn scan<B: Bank>(
     requires whole { streams ≡ B.kind.streams bank.now }
     requires listed { Rows B.kind bank.now streams rows.now }
     requires reach { InReach B.kind bank.now horizon }
-    ensures { MatchResult result (λ v. Looked B.kind bank.now v) (λ e. Refuses B.kind bank.now e) }
+    ensures { MatchResult result (λ v. Accepts B.kind bank.now v) (λ e. Refuses B.kind bank.now e) }
 {
     let mut known = [UNKNOWN; 32];
     let mut watches = [UNWATCHED; 32];

@@ -9,6 +9,7 @@ mod tests {
     use bank::{Bank, most_accepted};
     use demand::{admit, demand_at, load, sporadic_share};
     use join::Joined;
+    use script::play;
     use server::replay;
     use std::alloc::Global;
     use std::test::Fail;
@@ -193,7 +194,7 @@ mod tests {
             ),
         ];
         for (text, answer) in cases {
-            let written = replay(rt.alloc(), text.as_bytes())?;
+            let written = play(rt.alloc(), text.as_bytes())?;
             assert_eq!(rt; written.as_str(), answer, "{}", text);
         }
         Ok(())

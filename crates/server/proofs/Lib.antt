@@ -1,3 +1,1 @@
 pub mod Planning
-pub mod Accounting
-pub mod Scripts

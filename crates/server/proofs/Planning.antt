@@ -1,26 +1,23 @@
 -- A stream line, from the answers of the calls that it takes.
 
-use Rattle.std.proofs.Common.{◌≡◌, ℕ, ◌+◌, ◌<◌, ◌≤◌, List, [], ◌∷◌, ◌++◌, length, Some, None, Ok, Err, Option, Result, sym, refl, ap, ◌∙◌, subst, ⊎_elim, arith, length-append, MatchResult}
-use Rattle.std.proofs.lemmas.List.{nil_from_length}
+use Rattle.std.proofs.Common.{◌≡◌, ℕ, ◌+◌, ◌<◌, ◌≤◌, List, [], ◌∷◌, ◌++◌, map, length, Ok, Err, Result, sym, refl, ap, ◌∙◌, subst, ⊎_elim, arith, length-append}
 use Rattle.std.proofs.lemmas.Bool.{cases_lt}
 use Rattle.stream.specs.Faults.{placed}
 use Rattle.stream.specs.Making.{Made}
 use Rattle.stream.specs.declared.Fault.{Fault}
-use Rattle.stream.specs.declared.Layer.{Layer}
-use Rattle.stream.specs.declared.Layer.TheVariants.{Plan}
+use Rattle.stream.specs.declared.Layer.TheVariants.{Plan, Demand, Engine}
 use Rattle.stream.specs.declared.Refusal.{Refusal}
-use Rattle.stream.specs.declared.Refusal.TheVariants.{PhaseOutOfLimits}
+use Rattle.stream.specs.declared.Refusal.TheVariants.{PhaseOutOfLimits, MomentTooLate}
 use Rattle.stream.specs.declared.Row.{Row}
 use Rattle.stream.specs.declared.Verdict.{Verdict}
 use Rattle.stream.specs.declared.limits.Record.{Record}
-use Rattle.table.specs.Tables.{fresh}
+use Rattle.table.specs.Tables.{fresh, opened}
 use Rattle.demand.specs.Verdicts.{Judged}
-use Rattle.turns.specs.Steps.{Started}
-use Rattle.turns.specs.declared.State.{State as State'}
 use Rattle.table.specs.declared.shared.State.{State}
 use Rattle.join.specs.Joins.{joined}
 use Rattle.join.specs.declared.Joined.{Joined}
 use Rattle.table.specs.Growing.{Grown, GrownOn}
+use Rattle.table.specs.Phases.{Aligned}
 use Rattle.table.specs.Rasters.{raster, raster_states, phases_in}
 use Rattle.table.specs.Sporadics.{sporadic, states_in}
 use Rattle.table.specs.declared.phasing.Raster.{Raster as Raster'}
@@ -28,13 +25,15 @@ use Rattle.table.specs.declared.spacing.Sporadic.{Sporadic as Sporadic'}
 use Rattle.text.specs.Lines.{render}
 use Rattle.text.specs.Places.{out_of_shape}
 use Rattle.text.specs.Reader.{bytes_left, line_number, LineRead, LineRefused}
-use Rattle.server.specs.Checks.{Found, streams_only, unfit, tested as found}
+use Rattle.text.specs.declared.answer.Answer.TheVariants.{Accepted, Refused, Total}
+use Rattle.server.specs.Replays.{Answered, ended, followed, no_jobs}
+use Rattle.server.specs.declared.answers.Answers.TheVariants.{Two}
 use Rattle.text.specs.declared.line.Line.{Line}
 use Rattle.text.specs.declared.line.Line.TheVariants.{Sporadic, Raster, Go}
 use Rattle.text.specs.declared.reader.Reader.{Reader}
 use Rattle.server.specs.declared.plan.Start.{Start}
 use Rattle.server.specs.declared.plan.Tables.{Tables}
-use Rattle.server.specs.Plans.{Rows, rows_in, tables_of, no_rows, size, AddedSporadic, sporadic_unfit, sporadic_added, AddedRaster, raster_unfit, raster_unphased, raster_added, Added, Planned, ended, go, misshapen, refused, more, plan_fault, start_layer, Opened, Unopened, endless, shut}
+use Rattle.server.specs.Plans.{Rows, rows_in, no_rows, size, AddedSporadic, sporadic_unfit, sporadic_added, AddedRaster, raster_unfit, raster_unphased, raster_added, Added, Planned, go, misshapen, refused, more, Begun, Opened, unread, late, tested, plan_fault}
 
 clash : {X : Type 0} → {x : Record} {f : Fault} → ◌≡◌ {A = Result Record Fault} (Ok x) (Err f) → X
 clash e = let z : ◌≡◌ {A = ℕ} 0 1 = cc in absurd (let w : ⊥ = omega arith in w)
@@ -96,29 +95,26 @@ raster_grown other before later row phase line stream grown answer few is g e =
     (raster_refused rows row line answer phase (plan_fault PhaseOutOfLimits line) off (raster_unphased stream few is (omega arith))))
     (cases_lt phase stream.row.gap)
 
--- one line of a plan, or its end, from what the reader says of it
-pub plan_ended : (before : Reader) (rows : Rows) → length (bytes_left before) ≡ 0 → Planned (bytes_left before) (line_number before) rows (Ok None) (bytes_left before) (line_number before) rows
-plan_ended before rows none = subst (λ (text : List ℕ). Planned text (line_number before) rows (Ok None) text (line_number before) rows) (sym (nil_from_length (bytes_left before) none)) ended
-
-pub plan_misshapen : (before later : Reader) (fault : Fault) (answer : Result (Option Start) Fault) (rows : Rows) → (length (bytes_left before) ≡ 0 → ⊥) → LineRefused before fault later → answer ≡ Err fault → Planned (bytes_left before) (line_number before) rows answer (bytes_left later) (line_number later) rows
-plan_misshapen before later fault answer rows some off e =
-    subst (λ (a : Result (Option Start) Fault). Planned (bytes_left before) (line_number before) rows a (bytes_left later) (line_number later) rows) (sym e)
+-- one line of a plan, from what the reader says of it
+pub plan_misshapen : (before later : Reader) (fault : Fault) (answer : Result Start Fault) (rows : Rows) → LineRefused before fault later → answer ≡ Err fault → Planned (bytes_left before) (line_number before) rows answer (bytes_left later) (line_number later) rows
+plan_misshapen before later fault answer rows off e =
+    subst (λ (a : Result Start Fault). Planned (bytes_left before) (line_number before) rows a (bytes_left later) (line_number later) rows) (sym e)
     (subst (λ (r : Reader). Planned (bytes_left before) (line_number before) rows (Err fault) (bytes_left r) (line_number r) rows) (sym off.same)
-    (misshapen (λ (none : bytes_left before ≡ []). some (ap length none)) (record { read = off.read; unread = off.unread; whole = off.whole; place = off.place; halts = off.halts })))
+    (misshapen (record { read = off.read; unread = off.unread; whole = off.whole; place = off.place; halts = off.halts })))
 
-pub plan_go : (before later : Reader) (moment line : ℕ) (rows : Rows) → LineRead before (Go moment) later → line ≡ line_number before → Planned (bytes_left before) (line_number before) rows (Ok (Some (record { moment = moment; line = line }))) (bytes_left later) (line_number later) rows
+pub plan_go : (before later : Reader) (moment line : ℕ) (rows : Rows) → LineRead before (Go moment) later → line ≡ line_number before → Planned (bytes_left before) (line_number before) rows (Ok (record { moment = moment; line = line })) (bytes_left later) (line_number later) rows
 plan_go before later moment line rows read e =
-    subst (λ (n : ℕ). Planned (bytes_left before) (line_number before) rows (Ok (Some (record { moment = moment; line = n }))) (bytes_left later) (line_number later) rows) (sym e)
-    (subst (λ (n : ℕ). Planned (bytes_left before) (line_number before) rows (Ok (Some (record { moment = moment; line = line_number before }))) (bytes_left later) n rows) (sym read.next)
+    subst (λ (n : ℕ). Planned (bytes_left before) (line_number before) rows (Ok (record { moment = moment; line = n })) (bytes_left later) (line_number later) rows) (sym e)
+    (subst (λ (n : ℕ). Planned (bytes_left before) (line_number before) rows (Ok (record { moment = moment; line = line_number before })) (bytes_left later) n rows) (sym read.next)
     (go read.valid read.whole))
 
-pub plan_refused : (before later : Reader) (stream : Line) (line : ℕ) (fault : Fault) (answer : Result (Option Start) Fault) (rows next : Rows) → LineRead before stream later → line ≡ line_number before → Added rows stream line (Err fault) next → answer ≡ Err fault → Planned (bytes_left before) (line_number before) rows answer (bytes_left later) (line_number later) next
+pub plan_refused : (before later : Reader) (stream : Line) (line : ℕ) (fault : Fault) (answer : Result Start Fault) (rows next : Rows) → LineRead before stream later → line ≡ line_number before → Added rows stream line (Err fault) next → answer ≡ Err fault → Planned (bytes_left before) (line_number before) rows answer (bytes_left later) (line_number later) next
 plan_refused before later stream line fault answer rows next read here a e =
-    subst (λ (r : Result (Option Start) Fault). Planned (bytes_left before) (line_number before) rows r (bytes_left later) (line_number later) next) (sym e)
+    subst (λ (r : Result Start Fault). Planned (bytes_left before) (line_number before) rows r (bytes_left later) (line_number later) next) (sym e)
     (subst (λ (n : ℕ). Planned (bytes_left before) (line_number before) rows (Err fault) (bytes_left later) n next) (sym read.next)
     (refused stream read.valid read.whole (subst (λ (n : ℕ). Added rows stream n (Err fault) next) here a)))
 
-pub plan_more : (before later : Reader) (stream : Line) (line : ℕ) (rows next : Rows) → LineRead before stream later → line ≡ line_number before → Added rows stream line (Ok tt) next → (answer : Result (Option Start) Fault) (last : List ℕ) (end : ℕ) (final : Rows) → Planned (bytes_left later) (line_number later) next answer last end final → Planned (bytes_left before) (line_number before) rows answer last end final
+pub plan_more : (before later : Reader) (stream : Line) (line : ℕ) (rows next : Rows) → LineRead before stream later → line ≡ line_number before → Added rows stream line (Ok tt) next → (answer : Result Start Fault) (last : List ℕ) (end : ℕ) (final : Rows) → Planned (bytes_left later) (line_number later) next answer last end final → Planned (bytes_left before) (line_number before) rows answer last end final
 plan_more before later stream line rows next read here a answer last end final rest =
     more stream read.valid read.whole (subst (λ (n : ℕ). Added rows stream n (Ok tt) next) here a)
     (subst (λ (n : ℕ). Planned (bytes_left later) n next answer last end final) read.next rest)
@@ -132,40 +128,30 @@ line_shortens before later (Go moment) read = omega (arith, ap length read.whole
 pub read_as : (before later : Reader) (line other : Line) → line ≡ other → LineRead before line later → LineRead before other later
 read_as before later line other e read = subst (λ (l : Line). LineRead before l later) e read
 
-pub plan_as : {text rest : List ℕ} {line end : ℕ} {rows read : Rows} {found other : Option Start} → found ≡ other → Planned text line rows (Ok found) rest end read → Planned text line rows (Ok other) rest end read
-plan_as {text} {rest} {line} {end} {rows} {read} e planned = subst (λ (x : Option Start). Planned text line rows (Ok x) rest end read) e planned
-
-pub plan_tables : {text rest : List ℕ} {line end : ℕ} {rows : Rows} {answer : Result (Option Start) Fault} (bank : Joined Sporadic' Raster') (read : Tables) → tables_of bank ≡ read → Planned text line rows answer rest end (rows_in read) → Planned text line rows answer rest end (rows_in (tables_of bank))
-plan_tables {text} {rest} {line} {end} {rows} {answer} bank read e planned = subst (λ (t : Tables). Planned text line rows answer rest end (rows_in t)) (sym e) planned
-
 -- what opening a plan answers, from the answers of the calls that it takes
-pub by_fault : {X : Type 0} (P : X → Type 0) (Q : Fault → Type 0) (answer : Result X Fault) (fault : Fault) → answer ≡ Err fault → Q fault → MatchResult answer P Q
-by_fault {X} P Q answer fault e q = subst (λ (a : Result X Fault). MatchResult a P Q) (sym e) q
+pub open_unread : {text rest : List ℕ} {line end : ℕ} {rows read : Rows} (fault : Fault) (answer : Result Verdict Fault) → Planned text line rows (Err fault) rest end read → answer ≡ Err fault → Opened text line rows answer rest end
+open_unread {text} {rest} {line} {end} {rows} {read} fault answer planned e = subst (λ (a : Result Verdict Fault). Opened text line rows a rest end) (sym e) (unread planned)
 
-pub open_endless : {text rest : List ℕ} {line end : ℕ} {rows read : Rows} (fault : Fault) → Planned text line rows (Ok None) rest end read → fault ≡ out_of_shape end 1 → Unopened text line rows fault
-open_endless {text} {rest} {line} {end} {rows} fault planned e = subst (λ (f : Fault). Unopened text line rows f) (sym e) (endless planned)
+pub open_late : {text rest : List ℕ} {line end : ℕ} {rows read : Rows} (start : Start) (answer : Result Verdict Fault) → Planned text line rows (Ok start) rest end read → 1000000000000 < start.moment → answer ≡ Err (record { refusal = MomentTooLate; layer = Engine; line = start.line; byte = 0 }) → Opened text line rows answer rest end
+open_late {text} {rest} {line} {end} {rows} {read} start answer planned h e = subst (λ (a : Result Verdict Fault). Opened text line rows a rest end) (sym e) (late planned h)
 
-pub open_shut : {text rest : List ℕ} {line end : ℕ} {rows : Rows} (start : Start) (bank b : Joined Sporadic' Raster') (s : State') (e : Refusal) (layer : Layer) → Planned text line rows (Ok (Some start)) rest end (rows_in (tables_of bank)) → Started (joined sporadic raster) bank start.moment b s → s.verdict ≡ Err e → layer ≡ start_layer start.moment → Unopened text line rows (record { refusal = e; layer = layer; line = start.line; byte = 0 })
-open_shut {text} {rest} {line} {end} {rows} start bank b s e layer planned begun was is =
-    subst (λ (l : Layer). Unopened text line rows (record { refusal = e; layer = l; line = start.line; byte = 0 })) (sym is) (shut bank b s e planned begun was)
+pub open_tested : {text rest : List ℕ} {line end : ℕ} {rows : Rows} (start : Start) (before : Tables) (bank : Joined Sporadic' Raster') (verdict : Result Verdict Refusal) (answer : Result Verdict Fault) → Planned text line rows (Ok start) rest end (rows_in before) → start.moment ≤ 1000000000000 → Begun (rows_in before) start.moment bank → Judged (joined sporadic raster) bank verdict → answer ≡ placed verdict Demand start.line → Opened text line rows answer rest end
+open_tested {text} {rest} {line} {end} {rows} start before bank verdict answer planned h begun judged e = subst (λ (a : Result Verdict Fault). Opened text line rows a rest end) (sym e) (tested bank verdict planned h begun judged)
+
+-- the two tables joined, and begun
+pub begun_joined : (before : Tables) (joint bank : Joined Sporadic' Raster') (moment : ℕ) → joint.left ≡ before.sporadic → joint.right ≡ before.raster → (joined sporadic raster).begins joint moment bank → Begun (rows_in before) moment bank
+begun_joined before joint bank moment l r g = record {
+  spaced = g.0 ∙ ap (λ (b : Sporadic'). map opened (states_in b)) l;
+  aligned = subst (λ (b : Raster'). Aligned moment (phases_in b) (raster_states b) (raster_states bank.right)) r g.1.0;
+}
 
 -- a reader at the start of a text, and a table without streams
-pub from_start : (P : List ℕ → ℕ → Rows → Type 0) (text bytes : List ℕ) (line : ℕ) (rows : Rows) → bytes ≡ text → line ≡ 1 → rows ≡ no_rows → P bytes line rows → P text 1 no_rows
-from_start P text bytes line rows b l s o =
-    subst (λ (x : List ℕ). P x 1 no_rows) b (subst (λ (n : ℕ). P bytes n no_rows) l (subst (λ (x : Rows). P bytes line x) s o))
+pub from_start : {answer : Result Verdict Fault} {rest : List ℕ} {end : ℕ} (text bytes : List ℕ) (line : ℕ) (rows : Rows) → bytes ≡ text → line ≡ 1 → rows ≡ no_rows → Opened bytes line rows answer rest end → Opened text 1 no_rows answer rest end
+from_start {answer} {rest} {end} text bytes line rows b l s o =
+    subst (λ (x : List ℕ). Opened x 1 no_rows answer rest end) b (subst (λ (n : ℕ). Opened bytes n no_rows answer rest end) l (subst (λ (x : Rows). Opened bytes line x answer rest end) s o))
 
-pub plan_from_start : {answer : Result (Option Start) Fault} {rest : List ℕ} {end : ℕ} {read : Rows} (text : List ℕ) (reader : Reader) (tables : Tables) → bytes_left reader ≡ text → line_number reader ≡ 1 → rows_in tables ≡ no_rows → Planned (bytes_left reader) (line_number reader) (rows_in tables) answer rest end read → Planned text 1 no_rows answer rest end read
-plan_from_start {answer} {rest} {end} {read} text reader tables = from_start (λ x n rows. Planned x n rows answer rest end read) text (bytes_left reader) (line_number reader) (rows_in tables)
+pub answered_end : {verdict : Verdict} {end : ℕ} (text rest : List ℕ) → rest ≡ [] → Opened text 1 no_rows (Ok verdict) rest end → Answered text (Two (Accepted verdict) (Total no_jobs))
+answered_end {verdict} {end} text rest e o = ended (subst (λ (x : List ℕ). Opened text 1 no_rows (Ok verdict) x end) e o)
 
-pub opened_from_start : {verdict : Verdict} {b : Joined Sporadic' Raster'} {s : State'} {rest : List ℕ} {end : ℕ} (text : List ℕ) (reader : Reader) (tables : Tables) → bytes_left reader ≡ text → line_number reader ≡ 1 → rows_in tables ≡ no_rows → Opened (bytes_left reader) (line_number reader) (rows_in tables) verdict b s rest end → Opened text 1 no_rows verdict b s rest end
-opened_from_start {verdict} {b} {s} {rest} {end} text reader tables = from_start (λ x n rows. Opened x n rows verdict b s rest end) text (bytes_left reader) (line_number reader) (rows_in tables)
-
-pub unopened_from_start : {fault : Fault} (text : List ℕ) (reader : Reader) (tables : Tables) → bytes_left reader ≡ text → line_number reader ≡ 1 → rows_in tables ≡ no_rows → Unopened (bytes_left reader) (line_number reader) (rows_in tables) fault → Unopened text 1 no_rows fault
-unopened_from_start {fault} text reader tables = from_start (λ x n rows. Unopened x n rows fault) text (bytes_left reader) (line_number reader) (rows_in tables)
-
--- what checking a plan finds, from the answers of the calls that it takes
-pub found_unfit : {text rest : List ℕ} {end : ℕ} {rows : Rows} {read : Result (Option Start) Fault} (e : Refusal) (answer : Result Verdict Refusal) → Planned text 1 no_rows read rest end rows → streams_only read ≡ Err e → answer ≡ Err e → Found text answer
-found_unfit {text} e answer planned off is = subst (λ (a : Result Verdict Refusal). Found text a) (sym is) (unfit planned off)
-
-pub found_tested : {text rest : List ℕ} {end : ℕ} {read : Result (Option Start) Fault} {answer : Result Verdict Refusal} (bank : Joined Sporadic' Raster') (tables : Tables) → tables_of bank ≡ tables → Planned text 1 no_rows read rest end (rows_in tables) → streams_only read ≡ Ok tt → Judged (joined sporadic raster) bank answer → Found text answer
-found_tested {text} {rest} {end} {read} bank tables e planned on judged = found bank (subst (λ (t : Tables). Planned text 1 no_rows read rest end (rows_in t)) (sym e) planned) on judged
+pub answered_more : {verdict : Verdict} {rest : List ℕ} {end : ℕ} (text : List ℕ) (fault : Fault) → (rest ≡ [] → ⊥) → fault ≡ out_of_shape end 1 → Opened text 1 no_rows (Ok verdict) rest end → Answered text (Two (Accepted verdict) (Refused fault))
+answered_more {verdict} text fault some e o = subst (λ (f : Fault). Answered text (Two (Accepted verdict) (Refused f))) (sym e) (followed o some)

@@ -1,6 +1,2 @@
 pub mod Plans
-pub mod Performing
-pub mod Playing
-pub mod Accounts
 pub mod Replays
-pub mod Checks

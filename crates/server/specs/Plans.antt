@@ -1,20 +1,21 @@
--- How a plan is read: stream lines, each looked at whole and tested before the next is looked at, up to a go line or the end of the text.
+-- How a plan is read: stream lines, each looked at whole and tested before the next is looked at, up to the go line.
 
-use Rattle.std.specs.Prelude.{◌≡◌, ℕ, ◌+◌, ◌<◌, ◌≤◌, cond, List, [], ◌∷◌, ◌++◌, length, Some, None, Ok, Err, Option, Result, ◌≢◌, nat_lt}
+use Rattle.std.specs.Prelude.{◌≡◌, ℕ, ◌+◌, ◌<◌, ◌≤◌, List, [], ◌∷◌, ◌++◌, map, length, Ok, Err, Result}
+use Rattle.stream.specs.Faults.{placed}
 use Rattle.stream.specs.Making.{Made}
 use Rattle.stream.specs.declared.Fault.{Fault}
-use Rattle.stream.specs.declared.Layer.{Layer}
 use Rattle.stream.specs.declared.Layer.TheVariants.{Plan, Demand, Engine}
 use Rattle.stream.specs.declared.Refusal.{Refusal}
-use Rattle.stream.specs.declared.Refusal.TheVariants.{TooManyStreams, SporadicAfterRaster, PhaseOutOfLimits}
+use Rattle.stream.specs.declared.Refusal.TheVariants.{TooManyStreams, SporadicAfterRaster, PhaseOutOfLimits, MomentTooLate}
 use Rattle.stream.specs.declared.Row.{Row}
 use Rattle.stream.specs.declared.Verdict.{Verdict}
 use Rattle.stream.specs.declared.limits.Record.{Record}
 use Rattle.join.specs.Joins.{joined}
 use Rattle.join.specs.declared.Joined.{Joined}
+use Rattle.table.specs.Phases.{Aligned}
 use Rattle.table.specs.Rasters.{raster, raster_states, phases_in}
 use Rattle.table.specs.Sporadics.{sporadic, states_in}
-use Rattle.table.specs.Tables.{fresh}
+use Rattle.table.specs.Tables.{fresh, opened}
 use Rattle.table.specs.declared.shared.State.{State}
 use Rattle.table.specs.declared.phasing.Raster.{Raster as Raster'}
 use Rattle.table.specs.declared.spacing.Sporadic.{Sporadic as Sporadic'}
@@ -23,9 +24,7 @@ use Rattle.text.specs.Places.{out_of_shape}
 use Rattle.text.specs.Words.{Halts}
 use Rattle.text.specs.declared.line.Line.{Line}
 use Rattle.text.specs.declared.line.Line.TheVariants.{Sporadic, Raster, Go}
-use Rattle.turns.specs.Law.{NoneLate}
-use Rattle.turns.specs.Steps.{Started, last_moment}
-use Rattle.turns.specs.declared.State.{State as State'}
+use Rattle.demand.specs.Verdicts.{Judged}
 use Rattle.server.specs.declared.plan.Start.{Start}
 use Rattle.server.specs.declared.plan.Tables.{Tables}
 
@@ -41,10 +40,6 @@ pub record Rows : Type 0 where
 
 abbrev pub rows_in : Tables → Rows
 rows_in t = record { spaced = states_in t.sporadic; aligned = raster_states t.raster; phases = phases_in t.raster }
-
--- the tables that a bank joins
-abbrev pub tables_of : Joined Sporadic' Raster' → Tables
-tables_of bank = record { sporadic = bank.left; raster = bank.right }
 
 abbrev pub no_rows : Rows
 no_rows = record { spaced = []; aligned = []; phases = [] }
@@ -78,37 +73,28 @@ Added before (Sporadic row) line answer next = AddedSporadic before row line ans
 Added before (Raster row phase) line answer next = AddedRaster before row phase line answer next
 Added before (Go moment) line answer next = ⊥
 
--- The first byte at which the text is no line of the form any more.
-pub record Misshapen (form : List ℕ → Type 0) (text : List ℕ) (line : ℕ) (fault : Fault) : Type 0 where
+-- The first byte at which the text is no line any more.
+pub record Misshapen (text : List ℕ) (line : ℕ) (fault : Fault) : Type 0 where
   pub read : List ℕ
   pub unread : List ℕ
   pub whole : text ≡ read ++ unread
   pub place : fault ≡ out_of_shape line (length read + 1)
-  pub halts : Halts form read unread
+  pub halts : Halts LineForm read unread
 
--- From a text, the number of its first line and the streams so far, to the answer (where it says go, if it does), what is left of the text, the number of its first line, and the streams.
-pub data Planned : List ℕ → ℕ → Rows → Result (Option Start) Fault → List ℕ → ℕ → Rows → Type 0 where
-  ended : {line : ℕ} {rows : Rows} → Planned [] line rows (Ok None) [] line rows
-  go : {text rest : List ℕ} {line moment : ℕ} {rows : Rows} → Valid (Go moment) → text ≡ render (Go moment) ++ rest → Planned text line rows (Ok (Some (record { moment = moment; line = line }))) rest (line + 1) rows
-  misshapen : {text : List ℕ} {line : ℕ} {rows : Rows} {fault : Fault} → (text ≢ []) → Misshapen LineForm text line fault → Planned text line rows (Err fault) text line rows
+-- From a text, the number of its first line and the streams so far, to the answer, what is left of the text, the number of its first line, and the streams.
+pub data Planned : List ℕ → ℕ → Rows → Result Start Fault → List ℕ → ℕ → Rows → Type 0 where
+  go : {text rest : List ℕ} {line moment : ℕ} {rows : Rows} → Valid (Go moment) → text ≡ render (Go moment) ++ rest → Planned text line rows (Ok (record { moment = moment; line = line })) rest (line + 1) rows
+  misshapen : {text : List ℕ} {line : ℕ} {rows : Rows} {fault : Fault} → Misshapen text line fault → Planned text line rows (Err fault) text line rows
   refused : {text rest : List ℕ} {line : ℕ} {rows next : Rows} {fault : Fault} (stream : Line) → Valid stream → text ≡ render stream ++ rest → Added rows stream line (Err fault) next → Planned text line rows (Err fault) rest (line + 1) next
-  more : {text rest last : List ℕ} {line end : ℕ} {rows next final : Rows} {answer : Result (Option Start) Fault} (stream : Line) → Valid stream → text ≡ render stream ++ rest → Added rows stream line (Ok tt) next → Planned rest (line + 1) next answer last end final → Planned text line rows answer last end final
+  more : {text rest last : List ℕ} {line end : ℕ} {rows next final : Rows} {answer : Result Start Fault} (stream : Line) → Valid stream → text ≡ render stream ++ rest → Added rows stream line (Ok tt) next → Planned rest (line + 1) next answer last end final → Planned text line rows answer last end final
 
--- too late a moment is refused by the engine, else the bank is judged by its demand
-abbrev pub start_layer : ℕ → Layer
-start_layer moment = cond (nat_lt last_moment moment) Engine Demand
+-- the join of the two tables, begun at a moment: sporadic streams wait for nothing, the others for the first moment of their phase
+pub record Begun (rows : Rows) (moment : ℕ) (bank : Joined Sporadic' Raster') : Type 0 where
+  pub spaced : states_in bank.left ≡ map opened rows.spaced
+  pub aligned : Aligned moment rows.phases rows.aligned (raster_states bank.right)
 
--- Why no run begins: a fault in the plan, no go line, or a refused start, which stands at the go line.
-pub data Unopened (text : List ℕ) (line : ℕ) (rows : Rows) : Fault → Type 0 where
-  unread : {fault : Fault} {rest : List ℕ} {end : ℕ} {read : Rows} → Planned text line rows (Err fault) rest end read → Unopened text line rows fault
-  endless : {rest : List ℕ} {end : ℕ} {read : Rows} → Planned text line rows (Ok None) rest end read → Unopened text line rows (out_of_shape end 1)
-  shut : {start : Start} {rest : List ℕ} {end : ℕ} (bank b : Joined Sporadic' Raster') (s : State') (e : Refusal) → Planned text line rows (Ok (Some start)) rest end (rows_in (tables_of bank)) → Started (joined sporadic raster) bank start.moment b s → s.verdict ≡ Err e → Unopened text line rows (record { refusal = e; layer = start_layer start.moment; line = start.line; byte = 0 })
-
--- The plan is read up to its go line, and the join of its tables is started there and accepted: the verdict, the bank and the worker, of which no run is late, and what is left of the text.
-pub record Opened (text : List ℕ) (line : ℕ) (rows : Rows) (verdict : Verdict) (b : Joined Sporadic' Raster') (s : State') (rest : List ℕ) (end : ℕ) : Type 0 where
-  pub start : Start
-  pub bank : Joined Sporadic' Raster'
-  pub plan : Planned text line rows (Ok (Some start)) rest end (rows_in (tables_of bank))
-  pub begun : Started (joined sporadic raster) bank start.moment b s
-  pub judged : s.verdict ≡ Ok verdict
-  pub promise : NoneLate (joined sporadic raster) b s
+-- The plan is read; the moment is tested; then the bank begins and is tested. A fault of the test stands at the go line.
+pub data Opened (text : List ℕ) (line : ℕ) (rows : Rows) : Result Verdict Fault → List ℕ → ℕ → Type 0 where
+  unread : {fault : Fault} {rest : List ℕ} {end : ℕ} {read : Rows} → Planned text line rows (Err fault) rest end read → Opened text line rows (Err fault) rest end
+  late : {start : Start} {rest : List ℕ} {end : ℕ} {read : Rows} → Planned text line rows (Ok start) rest end read → 1000000000000 < start.moment → Opened text line rows (Err (record { refusal = MomentTooLate; layer = Engine; line = start.line; byte = 0 })) rest end
+  tested : {start : Start} {rest : List ℕ} {end : ℕ} {read : Rows} (bank : Joined Sporadic' Raster') (answer : Result Verdict Refusal) → Planned text line rows (Ok start) rest end read → start.moment ≤ 1000000000000 → Begun read start.moment bank → Judged (joined sporadic raster) bank answer → Opened text line rows (placed answer Demand start.line) rest end

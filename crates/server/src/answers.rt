@@ -1,55 +1,50 @@
 // The answers to a text, and their lines.
 
-ghost use Rattle.std.specs.Prelude.{◌≡◌, [], ◌∷◌, ◌++◌, string_bytes, OnOk};
+ghost use Rattle.std.specs.Prelude.{◌≡◌, [], ◌∷◌, ◌++◌, IfOk, string_bytes};
 ghost use Rattle.server.specs.Plans.{no_rows, rows_in};
-ghost use Rattle.server.specs.Replays.{Replayed};
 ghost use Rattle.text.specs.Shown.{answer_line};
+ghost use Rattle.server.specs.Replays.{Answered, lines_of};
 
-use crate::plan::{Opening, Tables, open_plan};
-use crate::script::run_script;
+use crate::plan::{Tables, open_plan};
 use std::alloc::{AllocError, Global};
-use text::{Answer, Reader};
+use text::{Answer, Counts, Reader};
 
-// Where the answers are written, one to a line.
-#[derive(Drop)]
-pub(crate) struct Answers {
-    pub(crate) heap: Global,
-    pub(crate) lines: String,
+// A verdict is followed by the counts of the run, or by a fault in what comes after the go line.
+#[derive(Clone, Copy)]
+pub(crate) enum Answers {
+    One(Answer),
+    Two(Answer, Answer),
 }
+
+// Nothing has run yet.
+const NO_JOBS: Counts = Counts {
+    accepted: 0,
+    finished: 0,
+    cut: 0,
+    dropped: 0,
+    waiting: 0,
+};
 
 impl Answers {
-    pub(crate) fn new(heap: Global) -> Answers
-        ensures { string_bytes result.lines ≡ [] }
+    pub(crate) fn to_text(self, heap: Global) -> Result<String, AllocError>
+        ensures { IfOk result (λ s. string_bytes s ≡ lines_of self) }
     {
-        Answers {
-            heap,
-            lines: String::new(heap),
+        match self {
+            Answers::One(answer) => format!(in heap; "{answer}\n"),
+            Answers::Two(first, second) => format!(in heap; "{first}\n{second}\n"),
         }
-    }
-
-    pub(crate) fn tell(&mut self, answer: Answer) -> Result<(), AllocError>
-        ensures { OnOk result (string_bytes self.new.lines ≡ string_bytes self.old.lines ++ (answer_line answer ++ 10 ∷ [])) }
-    {
-        let line = answer.to_line(self.heap)?;
-        self.lines.push_str(&line)
     }
 }
 
-// Opens the plan of a text and runs the script after it.
-pub(crate) fn answer_to(
-    text: &[u8],
-    tables: Tables,
-    answers: &mut Answers,
-) -> Result<(), AllocError>
-    ensures { OnOk result ((rows_in tables ≡ no_rows → string_bytes answers.old.lines ≡ [] → Replayed text.now (string_bytes answers.new.lines))) }
+pub(crate) fn answer_to(text: &[u8], tables: Tables) -> Answers
+    ensures { rows_in tables ≡ no_rows → Answered text.now result }
 {
     let mut reader = Reader::new(text);
     match open_plan(&mut reader, tables) {
-        Err(fault) => answers.tell(Answer::Refused(fault)),
-        Ok(opening) => {
-            let Opening { verdict, engine } = opening;
-            answers.tell(Answer::Accepted(verdict))?;
-            run_script(&mut reader, engine, answers)
-        }
+        Err(fault) => Answers::One(Answer::Refused(fault)),
+        Ok(verdict) => match reader.expect_end() {
+            Ok(()) => Answers::Two(Answer::Accepted(verdict), Answer::Total(NO_JOBS)),
+            Err(fault) => Answers::Two(Answer::Accepted(verdict), Answer::Refused(fault)),
+        },
     }
 }

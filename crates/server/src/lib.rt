@@ -3,43 +3,25 @@
 #![tactic(auto)]
 
 ghost use Rattle.std.specs.Prelude.{◌≡◌, IfOk, string_bytes};
-ghost use Rattle.server.specs.Checks.{Checked};
 ghost use Rattle.server.specs.Replays.{Replayed};
 
 mod answers;
 mod plan;
-mod script;
-mod verdicts;
 
-use answers::{Answers, answer_to};
+use answers::answer_to;
 use plan::Tables;
 use std::alloc::{AllocError, Global};
-use verdicts::{check_plan, number_of};
+use table::{Raster, Sporadic};
 
 // The longest text, in bytes, that replay reads.
 pub const LONGEST_TEXT: u64 = 65536;
 
-// What check answers for want of memory.
-const NO_MEMORY: i64 = -1;
-
-// Reads a plan, judges it and runs the script after it, one answer to a line.
+// Reads a plan, judges it and says so, one answer to a line.
 pub fn replay(heap: Global, text: &[u8]) -> Result<String, AllocError>
     ensures { IfOk result (λ s. Replayed text.now (string_bytes s)) }
 {
-    let tables = Tables::new(heap)?;
-    let mut answers = Answers::new(heap);
-    answer_to(text, tables, &mut answers)?;
-    let Answers { heap: _, lines } = answers;
-    Ok(lines)
-}
-
-// Whether a plan of stream lines alone may run: 0 if it may, else the number of its refusal; -1 for want of memory. For C, include/finchbronze.h declares it.
-#[unsafe(no_mangle)]
-pub extern "C" fn check(heap: Global, text: &[u8]) -> i64
-    ensures { Checked text.now result }
-{
-    match Tables::new(heap) {
-        Ok(tables) => number_of(check_plan(text, tables)),
-        Err(_) => NO_MEMORY,
-    }
+    let sporadic = Sporadic::new(heap)?;
+    let raster = Raster::new(heap)?;
+    let answers = answer_to(text, Tables { sporadic, raster });
+    answers.to_text(heap)
 }

@@ -1,44 +1,26 @@
-// Reading a plan into its tables, and starting it.
+// Reading a plan into its tables, and asking whether it may run.
 
-ghost use Rattle.std.specs.Prelude.{◌≡◌, IfOk, MatchResult};
-ghost use Rattle.text.specs.Places.{out_of_shape};
+ghost use Rattle.std.specs.Prelude.{◌≡◌};
 ghost use Rattle.text.specs.Reader.{bytes_left, line_number};
-ghost use Rattle.server.specs.Plans.{AddedRaster, AddedSporadic, Planned, Opened, Unopened, no_rows, rows_in, start_layer, tables_of};
+ghost use Rattle.server.specs.Plans.{AddedRaster, AddedSporadic, Planned, Opened, rows_in};
 
 use bank::Bank;
-use engine::Engine;
+use demand::admit;
 use join::Joined;
-use std::alloc::{AllocError, Global};
 use stream::{Fault, Layer, Record, Refusal, Row, Verdict, at_line};
 use table::{Raster, Sporadic};
 use text::{Line, Reader};
-use turns::LAST_MOMENT;
 
 const MOST_STREAMS: u64 = 32;
+
+// No run starts later.
+const LATEST_MOMENT: u64 = 1000000000000;
 
 // The streams of a plan as far as it is read: the sporadic ones, then those on a raster.
 #[derive(Drop)]
 pub(crate) struct Tables {
     pub(crate) sporadic: Sporadic,
     pub(crate) raster: Raster,
-}
-
-impl Tables {
-    pub(crate) fn new(heap: Global) -> Result<Tables, AllocError>
-        ensures { IfOk result (λ t. rows_in t ≡ no_rows) }
-    {
-        let sporadic = Sporadic::new(heap)?;
-        let raster = Raster::new(heap)?;
-        Ok(Tables { sporadic, raster })
-    }
-
-    // A plan is judged as one bank.
-    pub(crate) fn into_bank(self) -> Joined<Sporadic, Raster>
-        ensures { tables_of result ≡ self }
-    {
-        let Tables { sporadic, raster } = self;
-        Joined::new(sporadic, raster)
-    }
 }
 
 // Where a plan says go: the moment, and the line.
@@ -74,66 +56,30 @@ fn add_raster(tables: &mut Tables, row: Row, phase: u64, line: u64) -> Result<()
     at_line(tables.raster.grow(record, phase), Layer::Plan, line)
 }
 
-// Reads stream lines, up to a go line or the end of the text.
-pub(crate) fn read_plan(reader: &mut Reader, tables: &mut Tables) -> Result<Option<Start>, Fault>
+// Reads stream lines up to the go line.
+fn read_plan(reader: &mut Reader, tables: &mut Tables) -> Result<Start, Fault>
     ensures { Planned (bytes_left reader.old) (line_number reader.old) (rows_in tables.old) result (bytes_left reader.new) (line_number reader.new) (rows_in tables.new) }
 {
-    while !reader.at_end() {
+    loop {
         let line = reader.line_number();
         match reader.next_line()? {
             Line::Sporadic(row) => add_sporadic(tables, row, line)?,
             Line::Raster(row, phase) => add_raster(tables, row, phase, line)?,
-            Line::Go(moment) => return Ok(Some(Start { moment, line })),
+            Line::Go(moment) => return Ok(Start { moment, line }),
         }
     }
-    Ok(None)
 }
 
-// The text ends where a go line is due.
-fn without_go(line: u64) -> Fault
-    ensures { result ≡ out_of_shape line 1 }
+// The verdict on a plan, or the first fault in it. The tables are joined as they are judged.
+pub(crate) fn open_plan(reader: &mut Reader, mut tables: Tables) -> Result<Verdict, Fault>
+    ensures { Opened (bytes_left reader.old) (line_number reader.old) (rows_in tables) result (bytes_left reader.new) (line_number reader.new) }
 {
-    Fault {
-        refusal: Refusal::OutOfShape,
-        layer: Layer::Text,
-        line,
-        byte: 1,
+    let start = read_plan(reader, &mut tables)?;
+    if start.moment > LATEST_MOMENT {
+        return at_line(Err(Refusal::MomentTooLate), Layer::Engine, start.line);
     }
-}
-
-// An accepted plan: its verdict, and the engine that runs it.
-#[derive(Drop)]
-pub(crate) struct Opening {
-    pub(crate) verdict: Verdict,
-    pub(crate) engine: Engine<Joined<Sporadic, Raster>>,
-}
-
-// Who refuses a start.
-fn start_layer(moment: u64) -> Layer
-    ensures { result ≡ start_layer moment }
-{
-    if moment > LAST_MOMENT {
-        Layer::Engine
-    } else {
-        Layer::Demand
-    }
-}
-
-// Starts what a plan says, or finds the first fault in it.
-pub(crate) fn open_plan(reader: &mut Reader, mut tables: Tables) -> Result<Opening, Fault>
-    ensures { MatchResult result (λ o. Opened (bytes_left reader.old) (line_number reader.old) (rows_in tables) o.verdict o.engine.bank o.engine.state (bytes_left reader.new) (line_number reader.new)) (λ fault. Unopened (bytes_left reader.old) (line_number reader.old) (rows_in tables) fault) }
-{
-    let Some(start) = read_plan(reader, &mut tables)? else {
-        return Err(without_go(reader.line_number()));
-    };
-    let engine = Engine::start(tables.into_bank(), start.moment);
-    match engine.verdict() {
-        Ok(verdict) => Ok(Opening { verdict, engine }),
-        Err(refusal) => Err(Fault {
-            refusal,
-            layer: start_layer(start.moment),
-            line: start.line,
-            byte: 0,
-        }),
-    }
+    let Tables { sporadic, raster } = tables;
+    let mut bank = Joined::new(sporadic, raster);
+    bank.begin(start.moment);
+    at_line(admit(&bank), Layer::Demand, start.line)
 }

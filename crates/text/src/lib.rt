@@ -12,3 +12,4 @@ pub use answer::Answer;
 pub use call::Call;
 pub use line::Line;
 pub use reader::Reader;
+pub use turns::Counts;

@@ -22,7 +22,7 @@ use Rattle.bank.specs.Laws.{Laws, Same}
 use Rattle.bank.proofs.Windows.{same_then, same_self}
 use Rattle.demand.proofs.Widths.{short_fits}
 use Rattle.demand.specs.Demands.{demand, Feasible}
-use Rattle.demand.specs.Verdicts.{Judged}
+use Rattle.demand.specs.Verdicts.{Decided}
 use Rattle.turns.specs.Jobs.{allowance, deadline_of, job_of, put, released, worked, waiting, background, at_budget, ending}
 use Rattle.turns.specs.Law.{InTime, Counted, BeginsOverrun, Kept, NoneLate, Promise}
 use Rattle.turns.specs.Ledgers.{Status, waits, finished, cut, dropped, Entry, Ledger, empty, is_waiting, is_finished, is_cut, newcomer, older, end_in, served, mode_after, left_after, settled_in, entered, kept}
@@ -374,7 +374,7 @@ none_late {S} k laws bank moment b s started calls c t run =
     (λ (early : moment ≤ last_moment). let h = started.begun early in judged_run s.verdict h.0 h.1 h.2)
     (cases_lt last_moment moment)
   where
-    judged_run : (verdict : Result Verdict Refusal) → k.begins bank moment b → Judged k b verdict → s ≡ fresh moment verdict → Kept k (k.records b) c t (kept (k.records b) empty calls)
+    judged_run : (verdict : Result Verdict Refusal) → k.begins bank moment b → Decided k b verdict → s ≡ fresh moment verdict → Kept k (k.records b) c t (kept (k.records b) empty calls)
     judged_run (Err e) begins judged is = shut_run k laws b moment e empty is refl run
     judged_run (Ok v) begins judged is =
         let accepts = judged.says in

@@ -8,7 +8,7 @@ use Rattle.stream.specs.declared.Refusal.TheVariants.{MomentTooLate, NoSuchStrea
 use Rattle.stream.specs.declared.Verdict.{Verdict}
 use Rattle.stream.specs.declared.limits.Record.{Record}
 use Rattle.bank.specs.Kinds.{Kind}
-use Rattle.demand.specs.Verdicts.{Judged}
+use Rattle.demand.specs.Verdicts.{Decided}
 use Rattle.least.specs.Orders.{pair_below}
 use Rattle.turns.specs.Jobs.{deadline_of, job_of, put, released, worked, waiting, background, is_background, shed, ending}
 use Rattle.turns.specs.declared.End.{End}
@@ -40,7 +40,7 @@ fresh moment verdict = record {
 -- From a bank and a moment to the bank and the worker: too late a moment leaves the bank as it was; otherwise the bank begins and is judged, and if it is refused the worker is shut.
 pub record Started {S : Type 0} (k : Kind S) (bank : S) (moment : ℕ) (b : S) (s : State) : Type 0 where
   pub late : last_moment < moment → (b ≡ bank) × (s ≡ fresh moment (Err MomentTooLate))
-  pub begun : moment ≤ last_moment → k.begins bank moment b × Judged k b s.verdict × (s ≡ fresh moment s.verdict)
+  pub begun : moment ≤ last_moment → k.begins bank moment b × Decided k b s.verdict × (s ≡ fresh moment s.verdict)
 
 abbrev pub is_shut : Result Verdict Refusal → Bool
 is_shut (Ok v) = false

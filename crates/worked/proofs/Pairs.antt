@@ -12,7 +12,7 @@ use Rattle.least.specs.Orders.{point_below}
 use Rattle.demand.specs.Demands.{total, share, demand, Fits}
 use Rattle.demand.specs.Horizons.{Common}
 use Rattle.demand.specs.Shares.{normal_share, overrun_share}
-use Rattle.demand.specs.Verdicts.{point_at, InReach, Accepts, ExceedsFirst, Exceeds}
+use Rattle.demand.specs.Verdicts.{point_at, InReach, AcceptsAll, ExceedsFirst, Exceeds}
 use Rattle.demand.proofs.Beyond.{fits_beyond}
 use Rattle.table.specs.Sporadics.{sporadic, states_in}
 use Rattle.table.specs.Tables.{record_of, ceiling_of}
@@ -151,7 +151,7 @@ module _ (x y : Row) (b : Sporadic) (pair : Pair x y b) where
       ]
 
   -- accepted, by a test of every length up to the horizon
-  pub accepts_pair : (v : Verdict) → Least x y v.horizon → v.horizon ≤ 1000000 → upto (v.horizon + 1) (fits_test x y) ≡ true → upto v.horizon (above_test x y v.point) ≡ true → v.lengths ≡ v.horizon + 1 → 1 ≤ v.point.length → v.point.length ≤ v.horizon → v.point ≡ pair_point x y v.point.phase v.point.length → Accepts sporadic b v
+  pub accepts_pair : (v : Verdict) → Least x y v.horizon → v.horizon ≤ 1000000 → upto (v.horizon + 1) (fits_test x y) ≡ true → upto v.horizon (above_test x y v.point) ≡ true → v.lengths ≡ v.horizon + 1 → 1 ≤ v.point.length → v.point.length ≤ v.horizon → v.point ≡ pair_point x y v.point.phase v.point.length → AcceptsAll sporadic b v
   accepts_pair v l near fits above lengths from to is =
       let reach = reach_pair v.horizon l near in
       let all : (t : ℕ) → t ≤ v.horizon → Fits sporadic b t = λ t h. fits_pair (v.horizon + 1) fits t (omega arith) in

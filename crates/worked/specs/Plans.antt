@@ -9,7 +9,7 @@ use Rattle.stream.specs.declared.Verdict.{Verdict}
 use Rattle.bank.specs.Kinds.{Kind}
 use Rattle.bank.specs.Runs.{Run, ticks}
 use Rattle.demand.specs.Demands.{demand}
-use Rattle.demand.specs.Verdicts.{Judged}
+use Rattle.demand.specs.Verdicts.{Decided}
 use Rattle.table.specs.Sporadics.{sporadic, states_in}
 use Rattle.table.specs.declared.shared.State.{State}
 use Rattle.table.specs.declared.spacing.Sporadic.{Sporadic}
@@ -34,7 +34,7 @@ Pair x y b = rows (states_in b) ≡ x ∷ y ∷ []
 
 -- there is such a bank, and this is the answer on it
 abbrev pub JudgedPair : Row → Row → Result Verdict Refusal → Type 0
-JudgedPair x y answer = (b : Sporadic) × Pair x y b × Judged sporadic b answer
+JudgedPair x y answer = (b : Sporadic) × Pair x y b × Decided sporadic b answer
 
 -- the demands at lengths 0 to 6
 abbrev pub demands : Sporadic → Phase → List ℕ

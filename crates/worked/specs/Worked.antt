@@ -8,7 +8,7 @@ use Rattle.stream.specs.declared.Refusal.TheVariants.{HorizonTooFar, NotOpen}
 use Rattle.stream.specs.declared.Row.{Row}
 use Rattle.stream.specs.declared.Verdict.{Verdict}
 use Rattle.bank.specs.Accepting.{Accepted}
-use Rattle.demand.specs.Verdicts.{InReach, Accepts, Exceeds, Refuses}
+use Rattle.demand.specs.Verdicts.{InReach, AcceptsAll, Exceeds, Refuses}
 use Rattle.table.specs.Rasters.{raster, raster_states, phases_in}
 use Rattle.table.specs.Sporadics.{sporadic}
 use Rattle.table.specs.declared.phasing.Raster.{Raster}
@@ -28,12 +28,12 @@ pub record Worked (lock preview : Row) : Type 0 where
   pub preview_row : preview ≡ background 3 6
   pub normal : (b : Sporadic) → Pair lock preview b → demands b Normal ≡ 0 ∷ 0 ∷ 2 ∷ 2 ∷ 2 ∷ 2 ∷ 5 ∷ []
   pub overrun : (b : Sporadic) → Pair lock preview b → demands b Overrun ≡ 0 ∷ 0 ∷ 0 ∷ 0 ∷ 2 ∷ 3 ∷ 4 ∷ []
-  pub accepted : (b : Sporadic) → Pair lock preview b → Accepts sporadic b (verdict 6 7 Normal 2 (pos 0))
+  pub accepted : (b : Sporadic) → Pair lock preview b → AcceptsAll sporadic b (verdict 6 7 Normal 2 (pos 0))
   -- a background budget of 4 still fits, one of 5 does not
-  pub budget_four : (b : Sporadic) → Pair lock (background 4 6) b → Accepts sporadic b (verdict 6 7 Normal 2 (pos 0))
+  pub budget_four : (b : Sporadic) → Pair lock (background 4 6) b → AcceptsAll sporadic b (verdict 6 7 Normal 2 (pos 0))
   pub budget_five : (b : Sporadic) → Pair lock (background 5 6) b → Exceeds sporadic b (verdict 6 7 Normal 6 (negsuc 0))
   -- a certain budget of 6 is just served, but not with a short deadline of 3
-  pub certain_six : (b : Sporadic) → Pair (critical 6 2) preview b → Accepts sporadic b (verdict 6 7 Normal 2 (pos 0))
+  pub certain_six : (b : Sporadic) → Pair (critical 6 2) preview b → AcceptsAll sporadic b (verdict 6 7 Normal 2 (pos 0))
   pub certain_six_asks : (b : Sporadic) → Pair (critical 6 2) preview b → demands b Overrun ≡ 0 ∷ 0 ∷ 0 ∷ 0 ∷ 4 ∷ 5 ∷ 6 ∷ []
   pub short_three : (b : Sporadic) → Pair (critical 6 3) preview b → Exceeds sporadic b (verdict 6 4 Overrun 3 (negsuc 0))
   -- without slack length 0 is exceeded already

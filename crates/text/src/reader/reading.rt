@@ -1,15 +1,16 @@
 // Reading a line, or refusing it.
 
-ghost use Rattle.std.specs.Prelude.{◌≡◌, ◌+◌, ◌<◌, length, MatchResult};
+ghost use Rattle.std.specs.Prelude.{◌≡◌, ◌+◌, ◌<◌, ◌≢◌, [], length, MatchResult};
 ghost use Rattle.text.specs.Calls.{call_bytes, ValidCall};
 ghost use Rattle.text.specs.Lines.{render, Valid};
+ghost use Rattle.text.specs.Places.{out_of_shape};
 ghost use Rattle.text.specs.Reader.{bytes_left, line_number, next_origin, LineRead, LineRefused, CallRead, CallRefused, AllRead};
 
 use crate::call::Call;
 use crate::cursor::{Cursor, Origin};
 use crate::line::Line;
 use crate::reader::Reader;
-use stream::Fault;
+use stream::{Fault, Layer, Refusal};
 
 impl<'a> Reader<'a> {
     // One line of a plan with its newline. Where the text is out of shape, the reader stays.
@@ -32,6 +33,28 @@ impl<'a> Reader<'a> {
         let call = cursor.call(self.origin())?;
         self.pass(cursor.rest);
         Ok(call)
+    }
+
+    // Refuses what is left of the text, if anything is.
+    pub fn expect_end(&self) -> Result<(), Fault>
+        ensures { MatchResult result (λ _. bytes_left self.now ≡ []) (λ fault. (fault ≡ out_of_shape (line_number self.now) 1) × (bytes_left self.now ≢ [])) }
+    {
+        if self.at_end() {
+            Ok(())
+        } else {
+            Err(self.out_of_shape(1))
+        }
+    }
+
+    fn out_of_shape(&self, byte: u64) -> Fault
+        ensures { result ≡ out_of_shape (line_number self.now) byte }
+    {
+        Fault {
+            refusal: Refusal::OutOfShape,
+            layer: Layer::Text,
+            line: self.line,
+            byte,
+        }
     }
 
     fn origin(&self) -> Origin

@@ -1,5 +1,5 @@
 use Rattle.std.proofs.Common.{◌≡◌, Result, sym, refl, ap, ◌∙◌, subst, arith}
-use Rattle.demand.specs.Verdicts.{Judged}
+use Rattle.demand.specs.Verdicts.{Decided}
 use Rattle.stream.specs.declared.Refusal.{Refusal}
 use Rattle.stream.specs.declared.Verdict.{Verdict}
 use Rattle.turns.specs.Steps.{Started, fresh}
@@ -25,6 +25,6 @@ returns g c =
     let verdict : c.new-2.result.verdict ≡ c.admit-verdict.result = ap (λ (s : State). s.verdict) is in
     let started : Started k c.args.bank.now c.args.moment c.begin.new.self c.new-2.result = record {
       late = λ l. let z : ⊥ = omega arith in absurd z;
-      begun = λ _. (c.begin.ensures, subst (Judged k c.begin.new.self) (sym verdict) c.admit-verdict.ensures, is ∙ ap (fresh c.args.moment) (sym verdict));
+      begun = λ _. (c.begin.ensures, subst (Decided k c.begin.new.self) (sym verdict) c.admit-verdict.ensures.decided, is ∙ ap (fresh c.args.moment) (sym verdict));
     } in
     record { started = started; promise = none_late k g.met.B.Bank.lawful c.args.bank.now c.args.moment c.begin.new.self c.new-2.result started }

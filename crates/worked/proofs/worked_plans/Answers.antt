@@ -8,5 +8,5 @@ use Rattle.worked.proofs.worked_plans.Goals as goal
 
 pub returns : goal.returns
 returns c =
-    let is = sym c.lock-and-preview.ensures in
+    let is = sym c.lock_and_preview.ensures in
     record { plans = subst (λ (r : Row × Row). Worked r.0 r.1) is worked; runs = subst (λ (r : Row × Row). Lived r.0 r.1) is lived }

@@ -1,23 +1,18 @@
-use Rattle.std.proofs.lemmas.Result.{IfOk-weaker}
-use Rattle.std.proofs.Common.{string_bytes}
 use Rattle.text.specs.Reader.{bytes_left, line_number}
-use Rattle.server.proofs.Planning.{opened_from_start, unopened_from_start}
-use Rattle.server.proofs.Scripts.{replay_refused, replay_accepted}
+use Rattle.server.specs.Plans.{rows_in}
+use Rattle.server.specs.Replays.{refused}
+use Rattle.server.proofs.Planning.{from_start, answered_end, answered_more}
 use Rattle.server.proofs.answers.answer_to.Goals as goal
 
 pub returns-in-Err : goal.returns-in-Err
-returns-in-Err c =
-    IfOk-weaker c.tell.result _ _
-    (λ x told empty none.
-    replay_refused c.args.text.now c.in-Err.fault (string_bytes c.args.answers.now.lines) (string_bytes c.tell.new.self.lines) none
-    (unopened_from_start c.args.text.now c.new-reader.result c.args.tables c.new-reader.ensures.text c.new-reader.ensures.line empty c.in-Err.ensures) told)
-    c.tell.ensures
+returns-in-Err c empty = refused (from_start c.args.text.now (bytes_left c.new-reader.result) (line_number c.new-reader.result) (rows_in c.args.tables) c.new-reader.ensures.text c.new-reader.ensures.line empty c.in-Err.ensures)
 
-pub returns-in-ok-tell : goal.returns-in-ok-tell
-returns-in-ok-tell c =
-    IfOk-weaker c.run-script.result _ _
-    (λ x wrote empty none.
-    replay_accepted c.args.text.now c.in-Ok.opening.verdict c.in-Ok.opening.engine.bank c.in-Ok.opening.engine.state (bytes_left c.open_plan.new.reader) (line_number c.open_plan.new.reader) (string_bytes c.args.answers.now.lines) (string_bytes c.tell-in-Ok.new.self.lines) (string_bytes c.run-script.new.answers.lines) none
-    (opened_from_start c.args.text.now c.new-reader.result c.args.tables c.new-reader.ensures.text c.new-reader.ensures.line empty c.in-Ok.ensures)
-    c.in-ok-tell.ensures wrote)
-    c.run-script.ensures
+pub returns-in-Ok-expect_end : goal.returns-in-Ok-expect_end
+returns-in-Ok-expect_end c empty =
+    answered_end c.args.text.now (bytes_left c.open_plan.new.reader) c.in-Ok-expect_end.ensures
+    (from_start c.args.text.now (bytes_left c.new-reader.result) (line_number c.new-reader.result) (rows_in c.args.tables) c.new-reader.ensures.text c.new-reader.ensures.line empty c.in-Ok.ensures)
+
+pub returns-in-Err-expect_end : goal.returns-in-Err-expect_end
+returns-in-Err-expect_end c empty =
+    answered_more c.args.text.now c.in-Err-expect_end.fault c.in-Err-expect_end.ensures.1 c.in-Err-expect_end.ensures.0
+    (from_start c.args.text.now (bytes_left c.new-reader.result) (line_number c.new-reader.result) (rows_in c.args.tables) c.new-reader.ensures.text c.new-reader.ensures.line empty c.in-Ok.ensures)

@@ -1,30 +1,19 @@
-use Rattle.std.proofs.Common.{ℕ, Err, sym, ap, ◌∙◌}
+use Rattle.std.proofs.Common.{Err, ap, ◌∙◌}
 use Rattle.std.proofs.lemmas.Result.{err_from_is_err_and}
-use Rattle.text.specs.Places.{out_of_shape}
-use Rattle.server.specs.Plans.{unread}
-use Rattle.server.proofs.Planning.{plan_as, plan_tables, by_fault, open_endless, open_shut}
+use Rattle.server.proofs.Planning.{open_unread, open_late, open_tested, begun_joined}
 use Rattle.server.proofs.plan.open_plan.Goals as goal
 
-pub returns-in-err-start : goal.returns-in-err-start
-returns-in-err-start c =
-    let p = err_from_is_err_and c.from-residual.result c.from-residual.ensures.1 in
-    by_fault _ _ c.from-residual.result c.in-err-start.field-0.0 (p.1 ∙ ap Err p.2) (unread c.in-err-start.ensures)
+pub returns-in_err-start : goal.returns-in_err-start
+returns-in_err-start c =
+    let p = err_from_is_err_and c.from_residual.result c.from_residual.ensures.1 in
+    open_unread c.in_err-start.field-0.0 c.from_residual.result c.in_err-start.ensures (p.1 ∙ ap Err p.2)
 
-pub returns-in-default : goal.returns-in-default
-returns-in-default c = open_endless c.without-go.result (plan_as c.in-default.is c.in-ok-start.ensures) (c.without-go.ensures ∙ ap (λ (n : ℕ). out_of_shape n 1) c.line_number.ensures)
+pub returns-then-start-gt-LATEST_MOMENT : goal.returns-then-start-gt-LATEST_MOMENT
+returns-then-start-gt-LATEST_MOMENT c =
+    open_late c.in_ok-start.start c.at_line.result c.in_ok-start.ensures c.if-start-gt-LATEST_MOMENT.true c.at_line.ensures
 
-pub returns-in-Ok : goal.returns-in-Ok
-returns-in-Ok c = record {
-  start = c.in-Some.start;
-  bank = c.into-bank.result;
-  plan = plan_tables c.into-bank.result c.read-plan.new.tables c.into-bank.ensures (plan_as c.in-Some.is c.in-ok-start.ensures);
-  begun = c.start-engine.ensures.started;
-  judged = sym c.verdict.ensures ∙ c.in-Ok.is;
-  promise = c.start-engine.ensures.promise;
-}
-
-pub returns-in-Err : goal.returns-in-Err
-returns-in-Err c =
-    open_shut c.in-Some.start c.into-bank.result c.start-engine.result.bank c.start-engine.result.state c.in-Err.refusal c.start_layer.result
-    (plan_tables c.into-bank.result c.read-plan.new.tables c.into-bank.ensures (plan_as c.in-Some.is c.in-ok-start.ensures))
-    c.start-engine.ensures.started (sym c.verdict.ensures ∙ c.in-Err.is) c.start_layer.ensures
+pub returns : goal.returns
+returns c =
+    open_tested c.in_ok-start.start c.read_plan.new.tables c.begin.new.self c.admit.result c.at_line-2.result c.in_ok-start.ensures c.if-start-gt-LATEST_MOMENT.false
+    (begun_joined c.read_plan.new.tables c.new-bank.result c.begin.new.self c.in_ok-start.start.moment c.new-bank.ensures.left c.new-bank.ensures.right c.begin.ensures)
+    c.admit.ensures.judged c.at_line-2.ensures

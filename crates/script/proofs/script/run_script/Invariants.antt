@@ -1,7 +1,7 @@
 use Rattle.std.proofs.Common.{ℕ, List, length, string_bytes}
 use Rattle.text.specs.Reader.{bytes_left, line_number}
-use Rattle.server.specs.Playing.{Wrote}
-use Rattle.server.proofs.script.run_script.Given as goal
+use Rattle.script.specs.Playing.{Wrote}
+use Rattle.script.proofs.script.run_script.Given as goal
 
 -- whatever the rest of the script writes behind what is written, the whole writes
 abbrev pub invariant-loop-reader : goal.invariant-loop-reader

@@ -10,8 +10,8 @@ use Rattle.text.specs.Shown.{answer_line}
 use Rattle.text.specs.declared.answer.Answer.{Answer}
 use Rattle.text.specs.declared.answer.Answer.TheVariants.{Refused, Total}
 use Rattle.text.specs.declared.call.Call.{Call}
-use Rattle.server.specs.Performing.{Performed}
-use Rattle.server.specs.Plans.{Misshapen}
+use Rattle.script.specs.Performing.{Performed}
+use Rattle.script.specs.Plans.{Misshapen}
 
 -- From what is left of the text, the number of its first line, the bank and the worker, to the answers: the counts at the end of the text, or a fault and nothing more.
 pub data Played {S : Type 0} (k : Kind S) : List ℕ → ℕ → S → State → List Answer → Type 0 where

@@ -2,8 +2,8 @@
 
 ghost use Rattle.std.specs.Prelude.{◌≡◌, string_bytes, OnOk};
 ghost use Rattle.text.specs.Reader.{bytes_left, line_number};
-ghost use Rattle.server.specs.Performing.{Performed, TurnTaken, refused_at};
-ghost use Rattle.server.specs.Playing.{Wrote};
+ghost use Rattle.script.specs.Performing.{Performed, TurnTaken, refused_at};
+ghost use Rattle.script.specs.Playing.{Wrote};
 
 use crate::answers::Answers;
 use bank::Bank;

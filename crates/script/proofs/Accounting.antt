@@ -16,9 +16,9 @@ use Rattle.text.specs.declared.answer.Answer.{Answer}
 use Rattle.text.specs.declared.answer.Answer.TheVariants.{Refused, Took, Ran, Calm as CalmAt, Total}
 use Rattle.text.specs.declared.call.Call.{Call}
 use Rattle.text.specs.declared.call.Call.TheVariants.{Release, Turn, Calm}
-use Rattle.server.specs.Accounts.{heard_answer, heard_line, Logged, last, line, Accounted}
-use Rattle.server.specs.Performing.{told, turn_given, Performed}
-use Rattle.server.specs.Playing.{Played, finished, broken, called}
+use Rattle.script.specs.Accounts.{heard_answer, heard_line, Logged, last, line, Accounted}
+use Rattle.script.specs.Performing.{told, turn_given, Performed}
+use Rattle.script.specs.Playing.{Played, finished, broken, called}
 
 clash : {X : Type 0} → {e : Refusal} → ◌≡◌ {A = Option Refusal} (Some e) None → X
 clash was = let z : ◌≡◌ {A = ℕ} 0 1 = cc in absurd (let w : ⊥ = omega arith in w)

@@ -1,8 +1,8 @@
 // Whether a plan may run, told by a number alone.
 
 ghost use Rattle.std.specs.Prelude.{◌≡◌};
-ghost use Rattle.server.specs.Checks.{Found, streams_only, told};
-ghost use Rattle.server.specs.Plans.{no_rows, rows_in};
+ghost use Rattle.script.specs.Checks.{Found, streams_only, told};
+ghost use Rattle.script.specs.Plans.{no_rows, rows_in};
 
 use crate::plan::{Start, Tables, read_plan};
 use demand::admit;

@@ -21,11 +21,11 @@ use Rattle.text.specs.declared.answer.Answer.{Answer}
 use Rattle.text.specs.declared.answer.Answer.TheVariants.{Accepted, Refused, Total}
 use Rattle.text.specs.declared.call.Call.{Call}
 use Rattle.text.specs.declared.reader.Reader.{Reader}
-use Rattle.server.proofs.Accounting.{accounted}
-use Rattle.server.specs.Performing.{Performed}
-use Rattle.server.specs.Plans.{Opened, Unopened, no_rows}
-use Rattle.server.specs.Playing.{Played, finished, broken, called, Wrote, lines_of}
-use Rattle.server.specs.Replays.{Replayed, refused, accepted}
+use Rattle.script.proofs.Accounting.{accounted}
+use Rattle.script.specs.Performing.{Performed}
+use Rattle.script.specs.Plans.{Opened, Unopened, no_rows}
+use Rattle.script.specs.Playing.{Played, finished, broken, called, Wrote, lines_of}
+use Rattle.script.specs.Replays.{Replayed, refused, accepted}
 
 -- an answer in its line
 abbrev pub line_of : Answer → List ℕ

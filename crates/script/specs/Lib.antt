@@ -1,0 +1,6 @@
+pub mod Plans
+pub mod Performing
+pub mod Playing
+pub mod Accounts
+pub mod Replays
+pub mod Checks

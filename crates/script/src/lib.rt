@@ -1,0 +1,41 @@
+// A plan with the script after it, run; and a plan alone, told by a number.
+
+#![tactic(auto)]
+
+ghost use Rattle.std.specs.Prelude.{◌≡◌, IfOk, string_bytes};
+ghost use Rattle.script.specs.Checks.{Checked};
+ghost use Rattle.script.specs.Replays.{Replayed};
+
+mod answers;
+mod plan;
+mod script;
+mod verdicts;
+
+use answers::{Answers, answer_to};
+use plan::Tables;
+use std::alloc::{AllocError, Global};
+use verdicts::{check_plan, number_of};
+
+// What check answers for want of memory.
+const NO_MEMORY: i64 = -1;
+
+// Reads a plan, judges it and runs the script after it, one answer to a line.
+pub fn play(heap: Global, text: &[u8]) -> Result<String, AllocError>
+    ensures { IfOk result (λ s. Replayed text.now (string_bytes s)) }
+{
+    let tables = Tables::new(heap)?;
+    let mut answers = Answers::new(heap);
+    answer_to(text, tables, &mut answers)?;
+    let Answers { heap: _, lines } = answers;
+    Ok(lines)
+}
+
+// Whether a plan of stream lines alone may run: 0 if it may, else the number of its refusal; -1 for want of memory.
+pub fn check(heap: Global, text: &[u8]) -> i64
+    ensures { Checked text.now result }
+{
+    match Tables::new(heap) {
+        Ok(tables) => number_of(check_plan(text, tables)),
+        Err(_) => NO_MEMORY,
+    }
+}
