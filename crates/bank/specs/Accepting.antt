@@ -1,6 +1,6 @@
 -- What accept answers: a stream that does not exist and a stream whose opening at 0 is 0 are refused and nothing changes; any other is accepted.
 
-use Rattle.std.specs.Prelude.{◌≡◌, ℕ, ◌<◌, Some, None, Ok, Err, Option, Result}
+use Rattle.std.specs.Prelude.{◌≡◌, ℕ, ◌<◌, Some, None, Ok, Err, Result}
 use Rattle.stream.specs.declared.Refusal.{Refusal}
 use Rattle.stream.specs.declared.Refusal.TheVariants.{NoSuchStream, NotOpen}
 use Rattle.stream.specs.declared.limits.Record.{Record}

@@ -1,6 +1,6 @@
 -- The rules that every bank keeps. What is said of openings is said from begin on.
 
-use Rattle.std.specs.Prelude.{◌≡◌, ℕ, ◌+◌, ◌<◌, ◌≤◌, true, is_some, Some, Option, ◌≢◌}
+use Rattle.std.specs.Prelude.{◌≡◌, ℕ, ◌+◌, ◌<◌, ◌≤◌, true, is_some, Some, ◌≢◌}
 use Rattle.stream.specs.declared.limits.Record.{Record}
 use Rattle.bank.specs.Ceilings.{Ceiling}
 use Rattle.bank.specs.Kinds.{Kind}

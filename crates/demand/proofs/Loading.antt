@@ -1,6 +1,6 @@
 -- The load of a stream, and that it fits.
 
-use Rattle.std.proofs.Common.{◌≡◌, ℕ, ◌*◌, ◌/◌, ◌^◌, ◌≤◌, Some, Option, unwrap_or, sym, ap, ◌∙◌, subst, mul-le-mul, mul-le-mul_left, div-le_self, arith}
+use Rattle.std.proofs.Common.{◌≡◌, ℕ, ◌*◌, ◌/◌, ◌^◌, ◌≤◌, Some, Option, unwrap_or, sym, ap, ◌∙◌, subst, mul-le-mul, div-le_self, arith}
 use Rattle.stream.specs.declared.Row.{Row}
 use Rattle.stream.specs.declared.limits.Record.{Record}
 use Rattle.bank.specs.Kinds.{Kind}

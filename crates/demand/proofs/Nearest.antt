@@ -1,10 +1,9 @@
 -- The nearest point of the lengths so far, and one length more.
 
-use Rattle.std.proofs.Common.{◌≡◌, ℕ, zero, suc, ◌+◌, ◌-◌, ◌<◌, ◌≤◌, Bool, true, false, not, ◌&&◌, ◌||◌, List, [], ◌∷◌, length, get_or, Some, None, Option, sym, refl, ap, ◌∙◌, subst, ⊎_elim, arith}
+use Rattle.std.proofs.Common.{◌≡◌, ℕ, ◌+◌, ◌-◌, ◌<◌, ◌≤◌, Bool, true, false, not, ◌&&◌, ◌||◌, List, [], ◌∷◌, length, get_or, Some, None, Option, sym, refl, ap, ◌∙◌, subst, ⊎_elim, arith}
 use lib.Signed.{lt_z}
 use Rattle.std.proofs.lemmas.Bool.{cases_eq, cases_lt}
 use Rattle.std.proofs.ByRecursion.{All-get_or}
-use Rattle.std.specs.List.{AllByRecursion as All}
 use Rattle.stream.specs.declared.Phase.{Phase}
 use Rattle.stream.specs.declared.Phase.TheVariants.{Normal, Overrun}
 use Rattle.stream.specs.declared.Point.{Point}
@@ -12,7 +11,7 @@ use Rattle.bank.specs.Kinds.{Kind}
 use Rattle.least.specs.Firsts.{FirstLeast}
 use Rattle.least.specs.Orders.{lexical, by_margin, by_length, by_phase, point_below}
 use Rattle.least.specs.Rankings.{ranks_points}
-use Rattle.demand.specs.Verdicts.{point_at, Nearest, NearestSoFar, Passes, candidates}
+use Rattle.demand.specs.Verdicts.{point_at, Nearest, NearestSoFar, candidates}
 
 -- a point of a length from 1 to t
 pub record Point_upto {S : Type 0} (k : Kind S) (b : S) (t : ℕ) (p : Point) : Type 0 where

@@ -5,7 +5,7 @@ use Rattle.std.proofs.lemmas.List.{get_or-set_same, get_or-set_other, get_or_def
 use Rattle.std.proofs.Math.ListN.{get_or-map}
 use Rattle.std.proofs.lemmas.Bool.{cases_lt}
 use Rattle.stream.specs.Limits.{Within}
-use Rattle.stream.specs.declared.Class.TheVariants.{Critical, Background}
+use Rattle.stream.specs.declared.Class.TheVariants.{Critical}
 use Rattle.stream.specs.declared.Row.{Row}
 use Rattle.bank.specs.Ceilings.{Ceiling, back}
 use Rattle.bank.specs.Kinds.{Kind}

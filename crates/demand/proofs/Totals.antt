@@ -1,7 +1,6 @@
 -- Sums over the streams of a bank, one stream after another.
 
-use Rattle.std.proofs.Common.{◌≡◌, ℕ, zero, suc, ◌+◌, ◌-◌, ◌*◌, ◌^◌, ◌<◌, ◌≤◌, Some, None, Option, sym, refl, ap, ◌∙◌, add-one, arith}
-use Rattle.stream.specs.declared.Phase.{Phase}
+use Rattle.std.proofs.Common.{◌≡◌, ℕ, zero, suc, ◌+◌, ◌≤◌, Option, refl, ap, ◌∙◌, add-one, arith}
 use Rattle.stream.specs.declared.Phase.TheVariants.{Normal, Overrun}
 use Rattle.stream.specs.declared.Row.{Row}
 use Rattle.stream.specs.declared.limits.Record.{Record}

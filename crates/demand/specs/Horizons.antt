@@ -1,6 +1,6 @@
 -- The horizon: the least common multiple of all gaps.
 
-use Rattle.std.specs.Prelude.{◌≡◌, ℕ, ◌%◌, ◌≤◌, Some, Option}
+use Rattle.std.specs.Prelude.{◌≡◌, ℕ, ◌%◌, ◌≤◌, Some}
 use Rattle.stream.specs.declared.limits.Record.{Record}
 use Rattle.bank.specs.Kinds.{Kind}
 

@@ -1,8 +1,7 @@
 -- When a call is not refused: every test on its way was passed.
 
-use Rattle.std.proofs.Common.{◌≡◌, ℕ, ◌+◌, ◌<◌, ◌≤◌, Bool, true, false, cond, ◌&&◌, ◌||◌, eqb, ltb, is_some, Some, None, Option, sym, refl, ap, ◌∙◌, subst, arith}
+use Rattle.std.proofs.Common.{◌≡◌, ℕ, ◌<◌, ◌≤◌, false, ◌&&◌, ◌||◌, eqb, ltb, is_some, Some, None, ◌∙◌, arith}
 use Rattle.std.proofs.lemmas.Bool.{cond-false, le-ltb, ne_eqb, or_from}
-use Rattle.stream.specs.declared.Refusal.{Refusal}
 use Rattle.stream.specs.declared.Refusal.TheVariants.{NoSuchStream, TurnOut, BackgroundInOverrun, NotOpen, Shut}
 use Rattle.stream.specs.declared.limits.Record.{Record}
 use Rattle.turns.specs.Jobs.{job_of, background}

@@ -1,10 +1,10 @@
 -- Each step keeps the state of an engine sound.
 
-use Rattle.std.proofs.Common.{◌≡◌, ℕ, ◌+◌, ◌-◌, ◌*◌, ◌<◌, ◌≤◌, Bool, true, false, cond, ◌⊎◌, List, map, length, get_or, is_some, Some, None, sum_by, count_by, Option, Result, sym, refl, ap, ◌∙◌, subst, inl, inr, ⊎_elim, arith}
+use Rattle.std.proofs.Common.{◌≡◌, ℕ, ◌+◌, ◌-◌, ◌<◌, ◌≤◌, Bool, true, false, cond, ◌⊎◌, List, map, length, get_or, is_some, Some, None, count_by, Option, Result, sym, refl, ap, ◌∙◌, subst, inl, inr, ⊎_elim, arith}
 use borrow.Author.Tests.{clash}
 use Rattle.std.proofs.lemmas.List.{get_or-set_same, get_or-set_other, get_or-map, get_or_past, get_or-replicate, length-set, length-map}
 use Rattle.std.proofs.lemmas.List.Sums.{sum_by-set, count_by-le-length}
-use Rattle.std.proofs.lemmas.Bool.{cases_eq, cases_lt, cases_Bool}
+use Rattle.std.proofs.lemmas.Bool.{cases_eq, cases_lt}
 use Rattle.stream.specs.declared.Refusal.{Refusal}
 use Rattle.stream.specs.declared.Verdict.{Verdict}
 use Rattle.stream.specs.declared.limits.Record.{Record}
@@ -18,7 +18,7 @@ use Rattle.turns.specs.declared.Job.{Job}
 use Rattle.turns.specs.declared.State.{State}
 use Rattle.turns.specs.declared.Turn.{Turn}
 use Rattle.turns.specs.declared.Turn.TheVariants.{Idle, Of}
-use Rattle.engine.specs.Sound.{Early, Placed, Worked, Near, Tallied, Sound}
+use Rattle.engine.specs.Sound.{Worked, Near, Sound}
 
 -- a job that is found after one was put is that one or was there before
 put_found : (jobs : List (Option Job)) (i n : ℕ) (x : Option Job) (j : Job) → job_of (put jobs i x) n ≡ Some j → (x ≡ Some j) ⊎ (job_of jobs n ≡ Some j)

@@ -1,6 +1,6 @@
 -- Background jobs are dropped one place after another.
 
-use Rattle.std.specs.Prelude.{ℕ, ◌+◌, List, ◌++◌, map, take, drop, count_by}
+use Rattle.std.specs.Prelude.{ℕ, ◌+◌, ◌++◌, map, take, drop, count_by}
 use Rattle.stream.specs.declared.Phase.TheVariants.{Overrun}
 use Rattle.turns.specs.Jobs.{is_background, shed}
 use Rattle.turns.specs.declared.State.{State}

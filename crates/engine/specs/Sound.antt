@@ -1,12 +1,12 @@
 -- What the state of every engine keeps, so that no number of it can overflow and every turn that is out has a place.
 
-use Rattle.std.specs.Prelude.{◌≡◌, ℕ, ◌+◌, ◌*◌, ◌<◌, ◌≤◌, false, length, Some, None, Option}
+use Rattle.std.specs.Prelude.{◌≡◌, ℕ, ◌+◌, ◌*◌, ◌<◌, ◌≤◌, false, length, Some}
 use Rattle.turns.specs.Jobs.{job_of, waiting}
 use Rattle.turns.specs.Steps.{last_moment, is_shut}
 use Rattle.turns.specs.declared.Job.{Job}
 use Rattle.turns.specs.declared.State.{State}
 use Rattle.turns.specs.declared.Turn.{Turn}
-use Rattle.turns.specs.declared.Turn.TheVariants.{Idle, Of}
+use Rattle.turns.specs.declared.Turn.TheVariants.{Of}
 
 -- an open engine is within the last moment, and before it while a turn is out
 abbrev pub Early : State → Type 0

@@ -1,11 +1,10 @@
 -- What replay writes for a text.
 
-use Rattle.std.specs.Prelude.{◌≡◌, ℕ, List, [], ◌∷◌, ◌++◌, Ok, Err, Result, ◌≢◌}
+use Rattle.std.specs.Prelude.{◌≡◌, ℕ, List, [], ◌∷◌, ◌++◌, Ok, Err, ◌≢◌}
 use Rattle.stream.specs.declared.Fault.{Fault}
 use Rattle.stream.specs.declared.Verdict.{Verdict}
 use Rattle.text.specs.Places.{out_of_shape}
 use Rattle.text.specs.Shown.{answer_line}
-use Rattle.text.specs.declared.answer.Answer.{Answer}
 use Rattle.text.specs.declared.answer.Answer.TheVariants.{Accepted, Refused, Total}
 use Rattle.turns.specs.declared.Counts.{Counts}
 use Rattle.server.specs.declared.answers.Answers.{Answers}

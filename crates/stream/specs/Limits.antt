@@ -1,7 +1,6 @@
 -- The limits that the numbers of a stream keep, one after another in the order in which they are tested.
 
-use Rattle.std.specs.Prelude.{◌≡◌, ℕ, ◌≤◌}
-use Rattle.stream.specs.declared.Class.{Class}
+use Rattle.std.specs.Prelude.{◌≡◌, ◌≤◌}
 use Rattle.stream.specs.declared.Class.TheVariants.{Critical, Background}
 use Rattle.stream.specs.declared.Row.{Row}
 

@@ -1,6 +1,6 @@
 -- What the acts on a table keep: its streams, so their ceilings, and what holds of their phases.
 
-use Rattle.std.specs.Prelude.{◌≡◌, ℕ, ◌-◌, ◌<◌, ◌≤◌, List, map, length, set, Some, None, Ok, vec_capacity, Option, Result, slice_set, refl}
+use Rattle.std.specs.Prelude.{◌≡◌, ℕ, ◌-◌, ◌<◌, ◌≤◌, List, map, length, Some, None, Ok, vec_capacity, Option, Result, slice_set, refl}
 use Rattle.std.proofs.Common.{arith, ⊎_elim, sym, ap, ◌∙◌}
 use Rattle.bank.specs.Accepting.{Accepted}
 use Rattle.bank.specs.Kinds.{Kind}

@@ -1,15 +1,14 @@
 -- The entries of a ledger against the jobs of a worker: which job each entry stands for, and how both change together.
 
-use Rattle.std.proofs.Common.{◌≡◌, ℕ, ◌+◌, ◌-◌, ◌<◌, ◌≤◌, Bool, true, false, cond, ◌&&◌, eqb, List, [], ◌∷◌, ◌++◌, map, length, Some, None, Option, sym, refl, ap, ◌∙◌, subst, inl, inr, ⊎_elim, arith}
+use Rattle.std.proofs.Common.{◌≡◌, ℕ, ◌+◌, ◌≤◌, Bool, true, false, ◌&&◌, eqb, List, map, length, Some, None, Option, sym, refl, ap, ◌∙◌, subst, ⊎_elim, arith}
 use borrow.Author.Tests.{clash}
-use Rattle.std.proofs.lemmas.Bool.{cases_Bool, cases_eq, and_parts, cond-true, cond-false, eqb-true, eq-eqb, ne_eqb}
-use Rattle.std.specs.List.{AllByRecursion as All}
+use Rattle.std.proofs.lemmas.Bool.{cases_Bool, and_parts, cond-true, cond-false, eqb-true, eq-eqb}
 use Rattle.stream.specs.declared.Class.{Class}
 use Rattle.stream.specs.declared.Class.TheVariants.{Critical, Background}
 use Rattle.stream.specs.declared.Row.{Row}
 use Rattle.stream.specs.declared.limits.Record.{Record}
-use Rattle.turns.specs.Jobs.{job_of, put, worked, released, background, shed}
-use Rattle.turns.specs.Ledgers.{Status, waits, finished, cut, dropped, Entry, is_waiting, is_finished, is_cut, is_dropped, waits_for, newcomer, older, status_after, served, of_background, abandoned}
+use Rattle.turns.specs.Jobs.{job_of, put, worked, background, shed}
+use Rattle.turns.specs.Ledgers.{Status, waits, finished, cut, dropped, Entry, is_waiting, waits_for, older, status_after, served, of_background, abandoned}
 use Rattle.turns.specs.declared.End.{End}
 use Rattle.turns.specs.declared.End.TheVariants.{Going, Finished, Cut, Switch}
 use Rattle.turns.specs.declared.Job.{Job}

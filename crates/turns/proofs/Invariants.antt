@@ -1,19 +1,17 @@
 -- What every call keeps: no stretch of time is burdened with more than its length, and each waiting job is within its allowance.
 
-use Rattle.std.proofs.Common.{◌≡◌, ℕ, ◌+◌, ◌-◌, ◌*◌, ◌<◌, ◌≤◌, Bool, true, false, List, length, Some, None, Option, sym, refl, ap, ◌∙◌, subst, ⊎_elim, arith}
+use Rattle.std.proofs.Common.{◌≡◌, ℕ, ◌+◌, ◌-◌, ◌<◌, ◌≤◌, List, length, Some, None, Option, refl, ap, subst, ⊎_elim, arith}
 use Rattle.std.proofs.lemmas.Bool.{cases_lt}
 use Rattle.stream.specs.declared.Phase.{Phase}
-use Rattle.stream.specs.declared.Phase.TheVariants.{Normal, Overrun}
-use Rattle.stream.specs.declared.Row.{Row}
 use Rattle.stream.specs.declared.limits.Record.{Record}
 use Rattle.bank.specs.Ceilings.{Ceiling}
 use Rattle.demand.specs.Demands.{total, share}
-use Rattle.turns.specs.Jobs.{allowance, term, deadline_of, job_of}
+use Rattle.turns.specs.Jobs.{allowance, deadline_of, job_of}
 use Rattle.turns.specs.Steps.{Next}
 use Rattle.turns.specs.declared.Job.{Job}
 use Rattle.turns.specs.declared.State.{State}
 use Rattle.turns.specs.declared.Turn.{Turn}
-use Rattle.turns.proofs.Burdens.{owed, coming, burden, owed_due, owed_later, coming_demanded}
+use Rattle.turns.proofs.Burdens.{owed, coming, burden, owed_due, coming_demanded}
 use Rattle.turns.proofs.Sums.{total_le, total_term}
 
 -- what a run does not change: the streams with their records and ceilings, admitted

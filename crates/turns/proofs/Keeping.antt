@@ -1,30 +1,27 @@
 -- Each call keeps a worker sane, whatever the openings of its bank, if they are within the rules of a bank.
 
-use Rattle.std.proofs.Common.{◌≡◌, ℕ, ◌+◌, ◌-◌, ◌*◌, ◌<◌, ◌≤◌, Bool, true, false, cond, not, ◌&&◌, ◌||◌, ltb, ◌⊎◌, List, map, length, replicate, Some, None, Option, Result, sym, refl, ap, ◌∙◌, subst, inl, inr, ⊎_elim, arith}
-use Rattle.std.proofs.lemmas.List.{length-set, length-map, length-replicate, get_or-replicate}
-use Rattle.std.proofs.lemmas.Bool.{cases_lt, cases_eq, or_parts, ltb-false}
+use Rattle.std.proofs.Common.{◌≡◌, ℕ, ◌+◌, ◌-◌, ◌<◌, ◌≤◌, false, cond, ltb, ◌⊎◌, List, map, length, replicate, Some, None, Option, sym, refl, ap, ◌∙◌, subst, inl, inr, ⊎_elim, arith}
+use Rattle.std.proofs.lemmas.List.{length-set, length-map, get_or-replicate}
+use Rattle.std.proofs.lemmas.Bool.{cases_lt, or_parts, ltb-false}
 use Rattle.stream.specs.declared.Class.{Class}
 use Rattle.stream.specs.declared.Class.TheVariants.{Critical, Background}
 use Rattle.stream.specs.declared.Phase.{Phase}
 use Rattle.stream.specs.declared.Phase.TheVariants.{Normal, Overrun}
-use Rattle.stream.specs.declared.Refusal.{Refusal}
 use Rattle.stream.specs.declared.Row.{Row}
-use Rattle.stream.specs.declared.Verdict.{Verdict}
 use Rattle.stream.specs.declared.limits.Record.{Record}
 use Rattle.demand.specs.Demands.{total, share}
 use Rattle.least.specs.Orders.{pair_below}
-use Rattle.turns.specs.Jobs.{allowance, term, deadline_of, job_of, put, released, worked, background, shed, ending}
-use Rattle.turns.specs.Steps.{fresh, with_job, Next, key, with_turn, ticked, ended, end_of, calmed}
+use Rattle.turns.specs.Jobs.{allowance, deadline_of, job_of, put, released, worked, background, shed}
+use Rattle.turns.specs.Steps.{with_job, Next, key, ticked, ended}
 use Rattle.turns.specs.declared.End.{End}
 use Rattle.turns.specs.declared.End.TheVariants.{Going, Finished, Cut, Switch}
 use Rattle.turns.specs.declared.Job.{Job}
 use Rattle.turns.specs.declared.State.{State}
-use Rattle.turns.specs.declared.Turn.{Turn}
 use Rattle.turns.specs.declared.Turn.TheVariants.{Idle, Of}
-use Rattle.turns.proofs.Burdens.{owed, coming, burden, owed_due, owed_later, owed_ticked, owed_worked, coming_less, coming_ticked, coming_demanded, burden_released, burden_carried}
-use Rattle.turns.proofs.Ends.{Says, end_says}
+use Rattle.turns.proofs.Burdens.{owed, burden, owed_due, owed_later, owed_ticked, owed_worked, coming_less, coming_ticked, coming_demanded, burden_released, burden_carried}
+use Rattle.turns.proofs.Ends.{Says}
 use Rattle.turns.proofs.Invariants.{Plan, Inside, Later, burden_at, burden_of, Bearable, Held, SlotOk, SlotsOk, TurnOk, Sane, quiet_bears, before_deadline, owed_in_time}
-use Rattle.turns.proofs.Slots.{job_put_same, job_put_other, put_each, job_shed}
+use Rattle.turns.proofs.Slots.{job_put_same, put_each, job_shed}
 use Rattle.turns.proofs.Sums.{total_le, total_lt}
 
 -- Start, and calm: no job waits.

@@ -1,19 +1,18 @@
 -- The law of every run, from what each call keeps.
 
-use Rattle.std.proofs.Common.{◌≡◌, ℕ, ◌+◌, ◌-◌, ◌<◌, ◌≤◌, Bool, true, false, cond, ◌&&◌, ◌||◌, eqb, ltb, leb, ◌⊎◌, List, [], ◌∷◌, ◌++◌, map, length, get_or, replicate, is_some, Some, None, Ok, Err, Option, Result, sym, refl, ap, ◌∙◌, subst, inl, inr, ⊎_elim, arith}
+use Rattle.std.proofs.Common.{◌≡◌, ℕ, ◌+◌, ◌-◌, ◌<◌, ◌≤◌, Bool, true, false, cond, ◌&&◌, ◌||◌, eqb, ltb, ◌⊎◌, List, [], ◌∷◌, ◌++◌, map, length, is_some, Some, None, Ok, Err, Option, Result, sym, refl, ap, ◌∙◌, subst, inl, inr, ⊎_elim, arith}
 use borrow.Author.Tests.{clash}
 use Rattle.std.proofs.ByRecursion.{All-weaker}
-use Rattle.std.proofs.lemmas.List.{get_or_past, length-replicate}
+use Rattle.std.proofs.lemmas.List.{get_or_past}
 use Rattle.std.proofs.lemmas.List.Sums.{get_or-le-sum_by}
-use Rattle.std.proofs.lemmas.Bool.{cases_Bool, cases_lt, or_parts, eqb-true, eqb-false, cond-true, cond-false}
-use Rattle.std.specs.List.{AllByRecursion as All}
+use Rattle.std.proofs.lemmas.Bool.{cases_Bool, cases_lt, or_parts, eqb-true, eqb-false}
 use Rattle.stream.specs.Limits.{Within}
 use Rattle.stream.specs.declared.Class.{Class}
 use Rattle.stream.specs.declared.Class.TheVariants.{Critical, Background}
 use Rattle.stream.specs.declared.Phase.{Phase}
 use Rattle.stream.specs.declared.Phase.TheVariants.{Normal, Overrun}
 use Rattle.stream.specs.declared.Refusal.{Refusal}
-use Rattle.stream.specs.declared.Refusal.TheVariants.{MomentTooLate, NoSuchStream, TurnOut, BackgroundInOverrun, NotOpen, NoTurnToSettle, JobWaits, AlreadyNormal, Shut, LastMoment}
+use Rattle.stream.specs.declared.Refusal.TheVariants.{MomentTooLate, NoSuchStream, TurnOut, BackgroundInOverrun, NotOpen, NoTurnToSettle, JobWaits, AlreadyNormal, Shut}
 use Rattle.stream.specs.declared.Row.{Row}
 use Rattle.stream.specs.declared.Verdict.{Verdict}
 use Rattle.stream.specs.declared.limits.Record.{Record}
@@ -23,22 +22,21 @@ use Rattle.bank.proofs.Windows.{same_then, same_self}
 use Rattle.demand.proofs.Widths.{short_fits}
 use Rattle.demand.specs.Demands.{demand, Feasible}
 use Rattle.demand.specs.Verdicts.{Decided}
-use Rattle.turns.specs.Jobs.{allowance, deadline_of, job_of, put, released, worked, waiting, background, at_budget, ending}
-use Rattle.turns.specs.Law.{InTime, Counted, BeginsOverrun, Kept, NoneLate, Promise}
+use Rattle.turns.specs.Jobs.{allowance, deadline_of, job_of, released, worked, waiting, background, ending}
+use Rattle.turns.specs.Law.{InTime, BeginsOverrun, Kept, NoneLate, Promise}
 use Rattle.turns.specs.Ledgers.{Status, waits, finished, cut, dropped, Entry, Ledger, empty, is_waiting, is_finished, is_cut, newcomer, older, end_in, served, mode_after, left_after, settled_in, entered, kept}
-use Rattle.turns.specs.Runs.{Call, release, pick, settle, calm, Heard, refused, granted, named, heard, heard_slip, heard_turn, Step, Run, still, step}
-use Rattle.turns.specs.Steps.{last_moment, fresh, Started, is_shut, in_overrun, barred, release_refusal, with_job, Released, pick_refusal, Next, with_turn, Picked, settle_refusal, ticked, ended, numbered, runner, end_of, after_turn, told_of, TurnSettled, calm_refusal, calmed, Calmed}
+use Rattle.turns.specs.Runs.{Call, release, pick, settle, calm, Heard, heard_turn, Step, Run, still, step}
+use Rattle.turns.specs.Steps.{last_moment, fresh, Started, is_shut, in_overrun, barred, release_refusal, with_job, Next, with_turn, settle_refusal, ticked, ended, numbered, runner, end_of, after_turn, told_of, calm_refusal, calmed}
 use Rattle.turns.specs.declared.End.{End}
 use Rattle.turns.specs.declared.End.TheVariants.{Going, Finished, Cut, Switch}
 use Rattle.turns.specs.declared.Job.{Job}
 use Rattle.turns.specs.declared.Settled.{Settled}
-use Rattle.turns.specs.declared.Settled.TheVariants.{Idle as NoJob, Ran}
 use Rattle.turns.specs.declared.State.{State}
 use Rattle.turns.specs.declared.Turn.{Turn}
 use Rattle.turns.specs.declared.Turn.TheVariants.{Idle, Of}
 use Rattle.turns.proofs.Ends.{Says, end_says}
 use Rattle.turns.proofs.Entries.{StatusOk, Known, Leaves}
-use Rattle.turns.proofs.Invariants.{Plan, Inside, SlotOk, TurnOk, Sane, Held, before_deadline}
+use Rattle.turns.proofs.Invariants.{Plan, Inside, SlotOk, TurnOk, Sane, before_deadline}
 use Rattle.turns.proofs.Keeping.{none_waits, sane_idle, sane_released, sane_ended, sane_idled}
 use Rattle.turns.proofs.Tracking.{Tracks, tracks_new, tracks_older, same_end, tracks_ended, tracked_counts}
 

@@ -8,20 +8,19 @@ use Rattle.std.proofs.lemmas.List.Sums.{sum_by-cons, sum_by_push}
 use Rattle.std.proofs.lemmas.Bool.{cases_Bool, cases_eq, and_parts, and_right, cond-true, cond-false, eqb-true, eq-eqb, ne_eqb}
 use Rattle.std.specs.List.{AllByRecursion as All}
 use Rattle.stream.specs.declared.Phase.{Phase}
-use Rattle.stream.specs.declared.Phase.TheVariants.{Normal, Overrun}
+use Rattle.stream.specs.declared.Phase.TheVariants.{Overrun}
 use Rattle.stream.specs.declared.Row.{Row}
 use Rattle.stream.specs.declared.limits.Record.{Record}
-use Rattle.demand.specs.Demands.{total}
 use Rattle.turns.specs.Jobs.{job_of, put, worked, released, waiting, background, is_background, shed, ending}
 use Rattle.turns.specs.Law.{Counted}
 use Rattle.turns.specs.Ledgers.{Status, waits, finished, cut, dropped, Entry, Ledger, is_waiting, is_finished, is_cut, is_dropped, sort, waits_for, newcomer, older, end_in, status_after, served, of_background, abandoned, mode_after, left_after}
-use Rattle.turns.specs.Steps.{with_job, ticked, overrun_begun, ended, calmed}
+use Rattle.turns.specs.Steps.{with_job, ticked, overrun_begun, ended}
 use Rattle.turns.specs.declared.End.{End}
 use Rattle.turns.specs.declared.End.TheVariants.{Going, Finished, Cut, Switch}
 use Rattle.turns.specs.declared.Job.{Job}
 use Rattle.turns.specs.declared.State.{State}
 use Rattle.turns.proofs.Counting.{sum_map, sum_plus, sum_same, sum_none, sum_ones, sum_places, total_same, count_numbers, one_if}
-use Rattle.turns.proofs.Entries.{StatusOk, Known, known_older, known_put, Leaves, with_turn_more, served_waiting, served_other, known_served, given_up, abandoned_yes, abandoned_no, known_shed, waits_true}
+use Rattle.turns.proofs.Entries.{StatusOk, Known, known_older, known_put, Leaves, served_waiting, served_other, known_served, abandoned_yes, abandoned_no, known_shed, waits_true}
 use Rattle.turns.proofs.Slots.{job_put_same, put_each, job_shed}
 
 abbrev pub Matched : List (Option Job) → List Entry → Type 0

@@ -7,7 +7,7 @@ use Rattle.stream.specs.declared.Phase.TheVariants.{Normal, Overrun}
 use Rattle.stream.specs.declared.limits.Record.{Record}
 use Rattle.bank.specs.Kinds.{Kind}
 use Rattle.turns.specs.Jobs.{waiting}
-use Rattle.turns.specs.Ledgers.{Status, waits, finished, cut, dropped, Entry, Ledger, empty, sort, is_waiting, is_finished, is_cut, is_dropped, kept}
+use Rattle.turns.specs.Ledgers.{finished, dropped, Entry, Ledger, empty, sort, is_waiting, is_finished, is_cut, is_dropped, kept}
 use Rattle.turns.specs.Runs.{Call, release, pick, settle, calm, Heard, Step, Run}
 use Rattle.turns.specs.Steps.{Started}
 use Rattle.turns.specs.declared.State.{State}

@@ -17,7 +17,6 @@ use Rattle.turns.specs.declared.Job.{Job}
 use Rattle.turns.specs.declared.Settled.{Settled}
 use Rattle.turns.specs.declared.Settled.TheVariants.{Idle as NoJob, Ran}
 use Rattle.turns.specs.declared.State.{State}
-use Rattle.turns.specs.declared.Tally.{Tally}
 use Rattle.turns.specs.declared.Turn.{Turn}
 use Rattle.turns.specs.declared.Turn.TheVariants.{Idle, Of}
 

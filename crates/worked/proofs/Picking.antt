@@ -1,6 +1,6 @@
 -- Who is picked where two jobs wait, and how a turn ends for the lock.
 
-use Rattle.std.proofs.Common.{◌≡◌, ℕ, zero, suc, ◌+◌, ◌-◌, ◌<◌, ◌≤◌, Bool, true, false, List, get_or, replicate, is_some, Some, None, Option, Result, sym, refl, ap, ◌∙◌, subst, ⊎_elim, arith}
+use Rattle.std.proofs.Common.{◌≡◌, ℕ, zero, suc, ◌+◌, ◌-◌, ◌<◌, ◌≤◌, Bool, true, false, get_or, replicate, is_some, Some, None, Result, sym, refl, ap, ◌∙◌, subst, ⊎_elim, arith}
 use borrow.Author.Tests.{clash}
 use Rattle.std.proofs.lemmas.List.{get_or-replicate, get_or_past}
 use Rattle.std.proofs.lemmas.Bool.{cases_lt}
@@ -10,7 +10,7 @@ use Rattle.stream.specs.declared.Refusal.{Refusal}
 use Rattle.stream.specs.declared.Row.{Row}
 use Rattle.stream.specs.declared.Verdict.{Verdict}
 use Rattle.least.specs.Orders.{pair_below}
-use Rattle.turns.specs.Jobs.{ending, job_of, released, worked}
+use Rattle.turns.specs.Jobs.{ending, released, worked}
 use Rattle.turns.specs.Steps.{Next, after_turn, end_of, ended, key, ticked}
 use Rattle.turns.specs.declared.End.{End}
 use Rattle.turns.specs.declared.End.TheVariants.{Finished, Switch}

@@ -1,4 +1,3 @@
-use Rattle.std.proofs.Common.{◌≡◌, length}
 use Rattle.demand.specs.Watching.{KeptFrom}
 use Rattle.demand.proofs.overrun_demand_after.Given as goal
 

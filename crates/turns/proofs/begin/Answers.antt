@@ -1,7 +1,5 @@
-use Rattle.std.proofs.Common.{◌≡◌, Result, sym, refl, ap, ◌∙◌, subst, arith}
+use Rattle.std.proofs.Common.{◌≡◌, sym, refl, ap, ◌∙◌, subst, arith}
 use Rattle.demand.specs.Verdicts.{Decided}
-use Rattle.stream.specs.declared.Refusal.{Refusal}
-use Rattle.stream.specs.declared.Verdict.{Verdict}
 use Rattle.turns.specs.Steps.{Started, fresh}
 use Rattle.turns.specs.declared.State.{State}
 use Rattle.turns.proofs.Lasting.{none_late}

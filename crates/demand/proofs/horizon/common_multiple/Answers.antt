@@ -1,4 +1,4 @@
-use Rattle.std.proofs.Common.{◌≡◌, ◌<◌, length, refl, arith}
+use Rattle.std.proofs.Common.{◌<◌, length, arith}
 use Rattle.std.proofs.lemmas.Result.{err_from_is_err_and}
 use Rattle.demand.proofs.Multiples.{least_none, least_more, none_more}
 use Rattle.demand.proofs.horizon.common_multiple.Goals as goal

@@ -1,4 +1,4 @@
-use Rattle.std.proofs.Common.{◌≡◌, ℕ, ◌-◌, ◌<◌, length}
+use Rattle.std.proofs.Common.{ℕ, ◌-◌, ◌<◌}
 use Rattle.demand.specs.Demands.{Fits}
 use Rattle.demand.specs.Verdicts.{NearestSoFar}
 use Rattle.demand.specs.Watching.{DueFrom, KeptFrom}

@@ -1,9 +1,5 @@
-use Rattle.std.proofs.Common.{◌≡◌, ℕ, ◌+◌, ◌-◌, ◌*◌, ◌^◌, ◌<◌, ◌≤◌, sym, refl, ap, ◌∙◌, subst, arith}
-use Rattle.stream.specs.declared.Class.TheVariants.{Critical, Background}
-use Rattle.bank.specs.Ceilings.{back}
-use Rattle.demand.specs.declared.Plateau.{Plateau}
-use Rattle.demand.specs.Shares.{slack, overrun_share}
-use Rattle.demand.specs.Watching.{Flat, moved}
+use Rattle.std.proofs.Common.{◌≡◌, ℕ, ◌+◌, ◌-◌, ◌*◌, sym, ap, ◌∙◌, arith}
+use Rattle.demand.specs.Shares.{slack}
 use Rattle.demand.proofs.Listing.{listed_within, listed_ceiling, asked_product}
 use Rattle.demand.proofs.Plateaus.{plateau_share, share_before_slack, share_of_background}
 use Rattle.demand.proofs.Watches.{flat_now, flat_seen, watched_early}

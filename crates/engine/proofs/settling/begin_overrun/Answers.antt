@@ -1,4 +1,4 @@
-use Rattle.std.proofs.Common.{◌≡◌, sym, refl, ap, ◌∙◌, subst, arith}
+use Rattle.std.proofs.Common.{ap, ◌∙◌, arith}
 use Rattle.turns.specs.Jobs.{is_background}
 use Rattle.turns.specs.declared.State.{State}
 use Rattle.engine.proofs.Tallying.{byte_few, counted_few, dropped_all, dropped_more}

@@ -1,4 +1,4 @@
-use Rattle.std.proofs.Common.{◌≡◌, is_some, sym, refl, ap, ◌∙◌, subst, arith}
+use Rattle.std.proofs.Common.{is_some, ◌∙◌, arith}
 use Rattle.engine.proofs.Tallying.{byte_few, counted_all, counted_few, counted_more}
 use Rattle.engine.proofs.settling.waiting_jobs.Goals as goal
 

@@ -1,9 +1,8 @@
-use Rattle.std.proofs.Common.{◌≡◌, ℕ, ◌<◌, ◌≤◌, leb, is_some, None, sym, refl, ap, ◌∙◌, subst, arith}
+use Rattle.std.proofs.Common.{◌≡◌, ℕ, ◌≤◌, leb, is_some, None, sym, refl, ◌∙◌, subst}
 use Rattle.std.proofs.lemmas.Bool.{leb-false}
 use Rattle.stream.specs.declared.Refusal.TheVariants.{Shut, TurnOut, LastMoment}
 use Rattle.turns.proofs.Lasting.{job_place, passed}
 use Rattle.turns.specs.Steps.{Next, is_shut, last_moment, pick_refusal, with_turn}
-use Rattle.turns.specs.declared.Turn.{Turn}
 use Rattle.turns.specs.declared.Turn.TheVariants.{Of}
 use Rattle.engine.proofs.Soundness.{fields, sound_turn}
 use Rattle.engine.proofs.state.Engine.pick.Goals as goal

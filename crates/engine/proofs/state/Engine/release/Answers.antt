@@ -1,12 +1,11 @@
-use Rattle.std.proofs.Common.{◌≡◌, ℕ, ◌-◌, ◌<◌, ◌≤◌, Bool, false, ◌&&◌, get_or, is_some, is_ok, Some, None, Ok, Err, Option, Result, sym, refl, ap, ◌∙◌, subst, ⊎_elim, arith}
+use Rattle.std.proofs.Common.{◌≡◌, ℕ, ◌<◌, ◌≤◌, ◌&&◌, is_some, is_ok, None, sym, ap, ◌∙◌, ⊎_elim, arith}
 use borrow.Author.Tests.{clash}
-use Rattle.std.proofs.lemmas.List.{get_or_read}
 use Rattle.std.proofs.lemmas.List.Sums.{count_by-le-length}
 use Rattle.std.proofs.lemmas.Bool.{cases_lt}
 use Rattle.stream.specs.declared.Row.{Row}
 use Rattle.turns.proofs.Lasting.{none_is}
 use Rattle.turns.specs.Jobs.{background, job_of, released}
-use Rattle.turns.specs.Steps.{in_overrun, is_shut, with_job}
+use Rattle.turns.specs.Steps.{in_overrun, with_job}
 use Rattle.turns.specs.declared.State.{State}
 use Rattle.engine.proofs.Granting.{release_granted}
 use Rattle.engine.proofs.Soundness.{fields, sound_released}

@@ -1,4 +1,4 @@
-use Rattle.std.proofs.Common.{◌≡◌, Some, sym, refl, ap, ◌∙◌, subst}
+use Rattle.std.proofs.Common.{Some}
 use Rattle.turns.specs.Steps.{after_turn, runner}
 use Rattle.engine.proofs.Soundness.{fields, sound_after}
 use Rattle.engine.proofs.state.Engine.settle.Goals as goal

@@ -1,9 +1,8 @@
-use Rattle.std.proofs.Common.{◌≡◌, ◌<◌, ◌≤◌, false, Err, sym, refl, ap, ◌∙◌, subst, ⊎_elim}
+use Rattle.std.proofs.Common.{◌<◌, ◌≤◌, Err, sym, ⊎_elim}
 use borrow.Author.Tests.{clash}
 use Rattle.std.proofs.lemmas.Bool.{cases_lt}
 use Rattle.stream.specs.declared.Refusal.TheVariants.{MomentTooLate}
-use Rattle.turns.specs.Steps.{last_moment, is_shut, fresh}
-use Rattle.turns.specs.declared.State.{State}
+use Rattle.turns.specs.Steps.{last_moment}
 use Rattle.engine.specs.Sound.{Sound}
 use Rattle.engine.proofs.Soundness.{fields, sound_fresh}
 use Rattle.engine.proofs.state.Engine.start.Goals as goal
