@@ -4,7 +4,7 @@ use Rattle.std.proofs.Common.{◌≡◌, ℕ, zero, suc, ◌+◌, ◌-◌, ◌�
 use Rattle.std.proofs.lemmas.List.{take_all}
 use Rattle.std.proofs.lemmas.List.Sums.{sum_by-cons, sum_by_more}
 use Rattle.std.proofs.lemmas.Bool.{cases_eq, cond_both, eq-eqb, ne_eqb}
-use Rattle.std.specs.List.{AllByRecursion as All}
+use Rattle.std.specs.List.{AllByRecursion}
 use Rattle.demand.specs.Demands.{total}
 use Rattle.turns.proofs.Sums.{total_zero}
 
@@ -92,7 +92,7 @@ sum_places {X} g d n xs room = sym (ap (λ (ys : List X). sum_by g ys) (take_all
 abbrev pub one_if : Bool → ℕ
 one_if b = cond b 1 0
 
-pub count_numbers : {X : Type 0} (test : X → Bool) (number : X → ℕ) (q : ℕ → Bool) (n : ℕ) (xs : List X) → All (λ x. (1 ≤ number x) × (number x ≤ n)) xs → count_by (λ x. test x && q (number x)) xs ≡ total n (λ i. cond (q i) (count_by (λ x. test x && eqb (number x) i) xs) 0)
+pub count_numbers : {X : Type 0} (test : X → Bool) (number : X → ℕ) (q : ℕ → Bool) (n : ℕ) (xs : List X) → AllByRecursion (λ x. (1 ≤ number x) × (number x ≤ n)) xs → count_by (λ x. test x && q (number x)) xs ≡ total n (λ i. cond (q i) (count_by (λ x. test x && eqb (number x) i) xs) 0)
 count_numbers {X} test number q n [] h = sym (total_same n (λ i. cond (q i) 0 0) (λ _. 0) (λ i _ _. cond_both (q i) 0 0 (λ z. z ≡ 0) (λ _. refl) (λ _. refl)) ∙ total_zero n)
 count_numbers {X} test number q n (x ∷ xs) h =
     let rest = count_numbers test number q n xs h.1 in

@@ -6,7 +6,7 @@ use Rattle.std.proofs.ByRecursion.{All-map, All-weaker, All-push}
 use Rattle.std.proofs.lemmas.List.{length-map, length_push, length-set}
 use Rattle.std.proofs.lemmas.List.Sums.{sum_by-cons, sum_by_push}
 use Rattle.std.proofs.lemmas.Bool.{cases_Bool, cases_eq, and_parts, and_right, cond-true, cond-false, eqb-true, eq-eqb, ne_eqb}
-use Rattle.std.specs.List.{AllByRecursion as All}
+use Rattle.std.specs.List.{AllByRecursion}
 use Rattle.stream.specs.declared.Phase.{Phase}
 use Rattle.stream.specs.declared.Phase.TheVariants.{Overrun}
 use Rattle.stream.specs.declared.Row.{Row}
@@ -28,7 +28,7 @@ Matched jobs es = (n : ℕ) → 1 ≤ n → n ≤ 32 → count_by (waits_for n) 
 
 pub record Tracks (R : ℕ → Option Record) (s : State) (l : Ledger) : Type 0 where
   pub mode : s.mode ≡ l.mode
-  pub known : All (Known R s.moment s.jobs) l.entries
+  pub known : AllByRecursion (Known R s.moment s.jobs) l.entries
   pub each : Matched s.jobs l.entries
   pub accepted : s.tally.accepted ≡ length l.entries
   pub finishes : s.tally.finished ≡ sort is_finished l.entries
@@ -145,7 +145,7 @@ module _ (R : ℕ → Option Record) (s : State) (l : Ledger) (room : length s.j
       let all = sort_changed (served i end) (waits_for i) (status_after end) (λ en w. status_served i end en w) (λ en w. ap (λ (x : Entry). x.status) (served_other i end en w)) p l.entries in
       omega (arith, cond-false (p waits) (count_by (waits_for i) l.entries) 0 no_wait, ap (λ (c : ℕ). cond {A = ℕ} (p (status_after end)) c 0) one)
 
-  known_all : (x : Option Job) (end : End) → Leaves r.row j x end → All (Known R s.moment (put s.jobs i x)) (map (served i end) l.entries)
+  known_all : (x : Option Job) (end : End) → Leaves r.row j x end → AllByRecursion (Known R s.moment (put s.jobs i x)) (map (served i end) l.entries)
   known_all x end left = All-map (Known R s.moment (put s.jobs i x)) (served i end) l.entries (All-weaker (Known R s.moment s.jobs) (λ en. Known R s.moment (put s.jobs i x) (served i end en)) (λ en k. known_served R s.moment s.jobs room i some in_range r e j is x end left en k) l.entries h.known)
 
   -- one entry waits for the stream as long as its job does
@@ -160,7 +160,7 @@ module _ (R : ℕ → Option Record) (s : State) (l : Ledger) (room : length s.j
       here false = sum_none (λ en. 0) (λ _. refl) l.entries
 
   -- the ledger's end of the turn is the worker's
-  first_waits : (mode : Phase) (done : Bool) (es : List Entry) → All (Known R s.moment s.jobs) es → 0 < count_by (waits_for i) es → end_in mode (Some r) done i es ≡ ending mode r.row (j.units + 1) done
+  first_waits : (mode : Phase) (done : Bool) (es : List Entry) → AllByRecursion (Known R s.moment s.jobs) es → 0 < count_by (waits_for i) es → end_in mode (Some r) done i es ≡ ending mode r.row (j.units + 1) done
   first_waits mode done [] k some = let z : ⊥ = omega arith in absurd z
   first_waits mode done (en ∷ es) k some =
       ⊎_elim
@@ -188,7 +188,7 @@ module _ (R : ℕ → Option Record) (s : State) (l : Ledger) (room : length s.j
       → Tracks R t (record { mode = mode; entries = map (served i end) l.entries })
   tracks_served x end left same t moment jobs mode is_mode a f c d = record {
     mode = is_mode;
-    known = subst (λ (m : ℕ). All (Known R m t.jobs) (map (served i end) l.entries)) (sym moment) (subst (λ (js : List (Option Job)). All (Known R s.moment js) (map (served i end) l.entries)) (sym jobs) (known_all x end left));
+    known = subst (λ (m : ℕ). AllByRecursion (Known R m t.jobs) (map (served i end) l.entries)) (sym moment) (subst (λ (js : List (Option Job)). AllByRecursion (Known R s.moment js) (map (served i end) l.entries)) (sym jobs) (known_all x end left));
     each = subst (λ (js : List (Option Job)). Matched js (map (served i end) l.entries)) (sym jobs) (matched x end same);
     accepted = a ∙ h.accepted ∙ sym (length-map l.entries (served i end));
     finishes = let b = h.finishes in omega (arith, sort_served is_finished end refl);
@@ -211,7 +211,7 @@ module _ (R : ℕ → Option Record) (jobs : List (Option Job)) (room : length j
       ap (λ (t : Bool). cond t 1 0) class
 
   -- as many entries are given up as jobs
-  pub given_up_count : (es : List Entry) → All (λ en. (1 ≤ en.stream) × (en.stream ≤ 32)) es → Matched jobs es → count_by (gives_up R) es ≡ count_by is_background jobs
+  pub given_up_count : (es : List Entry) → AllByRecursion (λ en. (1 ≤ en.stream) × (en.stream ≤ 32)) es → Matched jobs es → count_by (gives_up R) es ≡ count_by is_background jobs
   given_up_count es range each =
       count_numbers (λ en. is_waiting en.status) (λ en. en.stream) (λ n. of_background (R n)) 32 es range
       ∙ total_same 32 (λ n. cond (of_background (R n)) (count_by (waits_for n) es) 0) (λ n. one_if (is_background (job_of jobs n))) (λ n a b. ap (λ (c : ℕ). cond {A = ℕ} (of_background (R n)) c 0) (each n a b) ∙ background_job n a b (job_of jobs n) refl)

@@ -1,7 +1,7 @@
 -- The law of every run: no job is late, and none is lost.
 
 use Rattle.std.specs.Prelude.{◌≡◌, ℕ, ◌+◌, ◌≤◌, ◌⊎◌, List, length, Some, Option}
-use Rattle.std.specs.List.{AllByRecursion as All}
+use Rattle.std.specs.List.{AllByRecursion}
 use Rattle.stream.specs.declared.Class.TheVariants.{Critical, Background}
 use Rattle.stream.specs.declared.Phase.TheVariants.{Normal, Overrun}
 use Rattle.stream.specs.declared.limits.Record.{Record}
@@ -38,7 +38,7 @@ BeginsOverrun calm s t = ⊥
 
 pub record Kept {S : Type 0} (k : Kind S) (records : ℕ → Option Record) (b : S) (s : State) (l : Ledger) : Type 0 where
   pub mode : s.mode ≡ l.mode
-  pub in_time : All (InTime records) l.entries
+  pub in_time : AllByRecursion (InTime records) l.entries
   pub counted : Counted s l
   -- whatever call comes next, jobs are dropped only by a settle that begins an overrun
   pub dropping : (c : S) (t : State) (call : Call) (h : Heard) → Step k b s call h c t → (t.tally.dropped ≡ s.tally.dropped) ⊎ BeginsOverrun call s t
