@@ -6,7 +6,7 @@ use std::hint::black_box;
 use std::time::{Duration, Instant};
 
 #[link(name = "server", kind = "static")]
-#[link(name = "rattle_c", kind = "static")]
+#[link(name = "libc_c", kind = "static")]
 unsafe extern "C" {
     fn check(text: *const u8, length: usize) -> i64;
 }

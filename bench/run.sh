@@ -2,7 +2,6 @@
 # Builds the benchmark of check against plain Rust and runs it.
 set -eu
 cd "$(dirname "$0")/.."
-kit=$(dirname "$(dirname "$(rt doc)")")
-rt staticlib server >/dev/null
-rustc -O --edition 2024 -L target/staticlib -L "$kit/lib" bench/check.rs -o target/bench-check
+kit=$(dirname "$(tools/c-library)")
+rustc -O --edition 2024 -L target/staticlib -L "$kit" bench/check.rs -o target/bench-check
 exec target/bench-check bench/plans/*.streams
