@@ -55,14 +55,20 @@ mod tests {
                 demand_at(&bank, Phase::Overrun, length as u64),
                 Some(overrun[length])
             );
-            // only the lock is critical
-            assert_eq!(rt;
-                sporadic_share(Record::new(LOCK)?, length as u64),
-                Some(overrun[length])
-            );
         }
-        assert_eq!(rt; sporadic_share(Record::new(LOCK)?, 1000001), None);
         assert_eq!(rt; demand_at(&bank, Phase::Normal, 1000001), None);
+        Ok(())
+    }
+
+    // Only the lock is critical, so its shares are the overrun demand.
+    #[test]
+    fn shares_at_each_length(rt: HostRuntime) -> Result<(), Fail> {
+        let lock = Record::new(LOCK)?;
+        let shares = [0u64, 0, 0, 0, 2, 3, 4];
+        for length in 0..7 {
+            assert_eq!(rt; sporadic_share(lock, length as u64), Some(shares[length]));
+        }
+        assert_eq!(rt; sporadic_share(lock, 1000001), None);
         Ok(())
     }
 
@@ -338,6 +344,10 @@ mod tests {
             (<Sporadic as Bank>::LETTER, <Raster as Bank>::LETTER),
             ('S', 'R')
         );
+    }
+
+    #[test]
+    fn letter_of_a_join(rt: HostRuntime) {
         assert_eq!(rt; Joined::<Sporadic, Raster>::LETTER, 'J');
     }
 }
