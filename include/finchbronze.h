@@ -1,6 +1,7 @@
 /* Finchbronze for C: whether a plan of streams may run.
  *
- * Link target/staticlib/libserver.a (rt staticlib server) and the kit's lib/librattle_c.a. */
+ * Link target/staticlib/libserver.a, which tools/c-library builds, and the archive of the kit whose path
+ * tools/c-library prints. */
 
 #ifndef FINCHBRONZE_H
 #define FINCHBRONZE_H

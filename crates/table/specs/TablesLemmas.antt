@@ -98,6 +98,12 @@ state_unnumbered xs ys i size none = unnumbered (state_of ys i) refl
 pub place_read : (xs : List State) (k : ℕ) (s x : State) → k < length xs → x ≡ slice_index_or xs k x → slice_get xs k ≡ Some s → x ≡ s
 place_read xs k s x here is e = some_injective x s (sym (slice_get_read xs (length xs) k x refl here is) ∙ e)
 
+-- the same by the number of the stream
+pub state_read : (xs : List State) (i : ℕ) (s x : State) → x ≡ slice_index_or xs (i - 1) x → state_of xs i ≡ Some s → x ≡ s
+state_read xs i s x is e =
+    let at = state_numbered xs i s e in
+    place_read xs (i - 1) s x (omega arith) is (sym (state_at xs i at.0) ∙ e)
+
 -- an act on every state
 pub state_of_map : (f : State → State) (xs : List State) (i : ℕ) → state_of (map f xs) i ≡ option_map f (state_of xs i)
 state_of_map f xs i =
