@@ -48,11 +48,9 @@ pub trait Bank {
     ghost kind: { Kind Self };
 
     // Each kind of bank has one letter of its own.
-    const LETTER: char;
+    ghost LETTER: { ℕ };
 
-    // The letter, for code that knows a bank only by this trait: no contract can name a constant of it.
-    fn kind_letter(&self) -> char
-        ensures { result ≡ kind.letter };
+    const LETTER: char;
 
     fn streams(&self) -> u64
         ensures { result ≡ kind.streams self.now };
@@ -78,6 +76,8 @@ pub trait Bank {
     fn accept(&mut self, stream: u64) -> Result<(), Refusal>
         ensures { Accepted kind self.old stream result self.new };
 
+    ghost lettered: { LETTER ≡ kind.letter };
+
     ghost lawful: { Laws kind };
 }
 
@@ -97,8 +97,5 @@ pub fn has_stream<B: Bank>(bank: &B, stream: u64) -> bool
     ensures there { result ≡ true → (rec : Rec) × (B.kind.records bank.now stream ≡ Some rec) × Rules B.kind bank.now stream rec }
     ensures absent { result ≡ false → B.kind.records bank.now stream ≡ None }
 {
-    match bank.record_of(stream) {
-        Some(_) => true,
-        None => false,
-    }
+    bank.record_of(stream).is_some()
 }

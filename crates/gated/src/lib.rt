@@ -3,7 +3,7 @@
 
 #![tactic(auto)]
 
-ghost use Rattle.std.specs.Prelude.{◌≡◌, ℕ, false, Some};
+ghost use Rattle.std.specs.Prelude.{◌≡◌, ℕ, Some, refl};
 ghost use Rattle.bank.specs.Questions.{told, spanned};
 ghost use Rattle.bank.specs.Runs.{AtMost};
 ghost use Rattle.table.specs.Sporadics.{sporadic};
@@ -14,31 +14,32 @@ use bank::{Bank, most_accepted};
 use stream::{Record, Refusal};
 use table::Sporadic;
 
-// The letter of the kind.
-const GATED: char = 'G';
+// Open for so many ticks by now, or shut.
+#[derive(Clone, Copy)]
+enum Gate {
+    Open(u64),
+    Shut,
+}
 
 // While the gate is shut no release is accepted. It is shut for one tick after each `every` ticks, and never if that is 0.
 #[derive(Drop)]
 pub struct Gated<B> {
     inner: B,
-    shut: bool,
+    gate: Gate,
     every: u64,
-    passed: u64,
 }
 
 impl<B: Bank> Gated<B> {
     // The gate is open at first.
     pub fn new(inner: B, every: u64) -> Self
         ensures inner { result.inner ≡ inner }
-        ensures gate { result.shut ≡ false }
+        ensures gate { result.gate ≡ Gate.Open 0 }
         ensures every { result.every ≡ every }
-        ensures passed { result.passed ≡ 0 }
     {
         Self {
             inner,
-            shut: false,
+            gate: Gate::Open(0),
             every,
-            passed: 0,
         }
     }
 
@@ -46,26 +47,25 @@ impl<B: Bank> Gated<B> {
     fn move_gate(&mut self)
         ensures { self.new.inner ≡ self.old.inner }
     {
-        if self.passed < self.every {
-            self.passed += 1;
-            self.shut = false;
-        } else {
-            self.passed = 0;
-            self.shut = self.every > 0;
-        }
+        self.gate = match self.gate {
+            Gate::Open(passed) if passed < self.every => Gate::Open(passed + 1),
+            Gate::Open(_) if self.every > 0 => Gate::Shut,
+            Gate::Open(passed) => Gate::Open(passed),
+            Gate::Shut => Gate::Open(1),
+        };
     }
 }
 
 impl<B: Bank> Bank for Gated<B> {
     ghost kind = { gated B.Bank.kind };
 
-    const LETTER: char = GATED;
+    ghost LETTER = { 71 };
+
+    const LETTER: char = 'G';
+
+    ghost lettered = { refl };
 
     ghost lawful = { gated_lawful B.Bank.kind B.Bank.lawful };
-
-    fn kind_letter(&self) -> char {
-        GATED
-    }
 
     fn streams(&self) -> u64 {
         self.inner.streams()
@@ -84,19 +84,15 @@ impl<B: Bank> Bank for Gated<B> {
     }
 
     fn opening(&self, stream: u64, m: i64) -> Option<u64> {
-        if !self.shut || m != 0 {
-            return self.inner.opening(stream, m);
-        }
-        match self.inner.record_of(stream) {
-            Some(_) => Some(0),
-            None => None,
+        match self.gate {
+            Gate::Shut if m == 0 => self.inner.record_of(stream).map(|_| 0),
+            _ => self.inner.opening(stream, m),
         }
     }
 
     fn begin(&mut self, moment: u64) {
         self.inner.begin(moment);
-        self.shut = false;
-        self.passed = 0;
+        self.gate = Gate::Open(0);
     }
 
     fn tick(&mut self) {
@@ -105,12 +101,14 @@ impl<B: Bank> Bank for Gated<B> {
     }
 
     fn accept(&mut self, stream: u64) -> Result<(), Refusal> {
-        if !self.shut {
-            return self.inner.accept(stream);
-        }
-        match self.inner.record_of(stream) {
-            Some(_) => Err(Refusal::NotOpen),
-            None => Err(Refusal::NoSuchStream),
+        match self.gate {
+            Gate::Shut => {
+                self.inner
+                    .record_of(stream)
+                    .ok_or(Refusal::NoSuchStream)?;
+                Err(Refusal::NotOpen)
+            }
+            Gate::Open(_) => self.inner.accept(stream),
         }
     }
 }

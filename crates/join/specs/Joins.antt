@@ -1,42 +1,42 @@
 -- Two banks as one: each stream is what it is in its part, both parts begin and tick, and a release is accepted by the part that has the stream.
 
-use Rattle.std.specs.Prelude.{◌≡◌, ℕ, ◌+◌, min, None, Option}
+use Rattle.std.specs.Prelude.{◌≡◌, ℕ, ◌+◌, min, None, Option, Some}
 use Rattle.stream.specs.declared.limits.Record.{Record}
 use Rattle.bank.specs.Kinds.{Kind}
 use Rattle.join.specs.Routes.{route}
 use Rattle.join.specs.declared.Joined.{Joined}
 use Rattle.join.specs.declared.Part.{Part}
-use Rattle.join.specs.declared.Part.TheVariants.{Left, Right, Nowhere}
+use Rattle.join.specs.declared.Part.TheVariants.{Left, Right}
 
 -- where stream i of the join is
-abbrev pub place : {L R : Type 0} → Kind L → Joined L R → ℕ → Part
+abbrev pub place : {L R : Type 0} → Kind L → Joined L R → ℕ → Option Part
 place k b i = route (k.streams b.left) i
 
-abbrev pub record_at : {L R : Type 0} → Kind L → Kind R → Joined L R → Part → Option Record
-record_at k h b (Left i) = k.records b.left i
-record_at k h b (Right i) = h.records b.right i
-record_at k h b Nowhere = None
+abbrev pub record_at : {L R : Type 0} → Kind L → Kind R → Joined L R → Option Part → Option Record
+record_at k h b (Some (Left i)) = k.records b.left i
+record_at k h b (Some (Right i)) = h.records b.right i
+record_at k h b None = None
 
-abbrev pub count_at : {L R : Type 0} → Kind L → Kind R → Joined L R → Part → ℕ
-count_at k h b (Left i) = k.count b.left i
-count_at k h b (Right i) = h.count b.right i
-count_at k h b Nowhere = 0
+abbrev pub count_at : {L R : Type 0} → Kind L → Kind R → Joined L R → Option Part → ℕ
+count_at k h b (Some (Left i)) = k.count b.left i
+count_at k h b (Some (Right i)) = h.count b.right i
+count_at k h b None = 0
 
-abbrev pub ceiling_at : {L R : Type 0} → Kind L → Kind R → Joined L R → Part → ℕ → ℕ
-ceiling_at k h b (Left i) m = k.ceiling b.left i m
-ceiling_at k h b (Right i) m = h.ceiling b.right i m
-ceiling_at k h b Nowhere m = 0
+abbrev pub ceiling_at : {L R : Type 0} → Kind L → Kind R → Joined L R → Option Part → ℕ → ℕ
+ceiling_at k h b (Some (Left i)) m = k.ceiling b.left i m
+ceiling_at k h b (Some (Right i)) m = h.ceiling b.right i m
+ceiling_at k h b None m = 0
 
-abbrev pub opening_at : {L R : Type 0} → Kind L → Kind R → Joined L R → Part → ℕ → ℕ
-opening_at k h b (Left i) m = k.opening b.left i m
-opening_at k h b (Right i) m = h.opening b.right i m
-opening_at k h b Nowhere m = 0
+abbrev pub opening_at : {L R : Type 0} → Kind L → Kind R → Joined L R → Option Part → ℕ → ℕ
+opening_at k h b (Some (Left i)) m = k.opening b.left i m
+opening_at k h b (Some (Right i)) m = h.opening b.right i m
+opening_at k h b None m = 0
 
 -- the part that has the stream accepts, and the other part stays as it was
-abbrev pub accepts_at : {L R : Type 0} → Kind L → Kind R → Joined L R → Part → Joined L R → Type 0
-accepts_at k h b (Left i) c = k.accepts b.left i c.left × (c.right ≡ b.right)
-accepts_at k h b (Right i) c = h.accepts b.right i c.right × (c.left ≡ b.left)
-accepts_at k h b Nowhere c = ⊥
+abbrev pub accepts_at : {L R : Type 0} → Kind L → Kind R → Joined L R → Option Part → Joined L R → Type 0
+accepts_at k h b (Some (Left i)) c = k.accepts b.left i c.left × (c.right ≡ b.right)
+accepts_at k h b (Some (Right i)) c = h.accepts b.right i c.right × (c.left ≡ b.left)
+accepts_at k h b None c = ⊥
 
 abbrev pub joined : {L R : Type 0} → Kind L → Kind R → Kind (Joined L R)
 joined k h = record {

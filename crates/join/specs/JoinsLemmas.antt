@@ -1,6 +1,6 @@
 -- Two banks as one keep the rules of every bank: each rule of a stream is that of the part that has it.
 
-use Rattle.std.specs.Prelude.{◌≡◌, ℕ, ◌+◌, ◌-◌, ◌<◌, ◌≤◌, true, is_some, Some, None, ◌≢◌, refl}
+use Rattle.std.specs.Prelude.{◌≡◌, ℕ, ◌+◌, ◌-◌, ◌<◌, ◌≤◌, true, is_some, Some, None, ◌≢◌, refl, Option}
 use Rattle.std.proofs.Common.{arith, sym, ap, subst, ◌∙◌}
 use Rattle.stream.specs.declared.limits.Record.{Record}
 use Rattle.bank.specs.Ceilings.{Ceiling}
@@ -11,7 +11,7 @@ use Rattle.join.specs.Routes.{route}
 use Rattle.join.specs.Joins.{joined, place, record_at, count_at, ceiling_at, opening_at, accepts_at}
 use Rattle.join.specs.declared.Joined.{Joined}
 use Rattle.join.specs.declared.Part.{Part}
-use Rattle.join.specs.declared.Part.TheVariants.{Left, Right, Nowhere}
+use Rattle.join.specs.declared.Part.TheVariants.{Left, Right}
 use Rattle.join.specs.RoutesLemmas.{Routed, in_left, in_right, past, where_routed}
 
 none_some : {X : Type 0} (r : Record) → None ≡ Some r → X
@@ -33,27 +33,27 @@ same_parts k h b c p q = record {
   ceiling = λ i m. ap (λ a. ceiling_at k h c a m) (stays k b c i p.streams) ∙ ceiling (place k b i) m;
 }
   where
-    records : (a : Part) → record_at k h c a ≡ record_at k h b a
-    records (Left i) = p.records i
-    records (Right i) = q.records i
-    records Nowhere = refl
+    records : (a : Option Part) → record_at k h c a ≡ record_at k h b a
+    records (Some (Left i)) = p.records i
+    records (Some (Right i)) = q.records i
+    records None = refl
 
-    count : (a : Part) → count_at k h c a ≡ count_at k h b a
-    count (Left i) = p.count i
-    count (Right i) = q.count i
-    count Nowhere = refl
+    count : (a : Option Part) → count_at k h c a ≡ count_at k h b a
+    count (Some (Left i)) = p.count i
+    count (Some (Right i)) = q.count i
+    count None = refl
 
-    ceiling : (a : Part) (m : ℕ) → ceiling_at k h c a m ≡ ceiling_at k h b a m
-    ceiling (Left i) m = p.ceiling i m
-    ceiling (Right i) m = q.ceiling i m
-    ceiling Nowhere m = refl
+    ceiling : (a : Option Part) (m : ℕ) → ceiling_at k h c a m ≡ ceiling_at k h b a m
+    ceiling (Some (Left i)) m = p.ceiling i m
+    ceiling (Some (Right i)) m = q.ceiling i m
+    ceiling None m = refl
 
-listed_at : {L R : Type 0} (k : Kind L) (h : Kind R) → Laws k → Laws h → (b : Joined L R) (i : ℕ) (a : Part) → Routed (k.streams b.left) i a → 1 ≤ i → i ≤ (joined k h).streams b → is_some (record_at k h b a) ≡ true
+listed_at : {L R : Type 0} (k : Kind L) (h : Kind R) → Laws k → Laws h → (b : Joined L R) (i : ℕ) (a : Option Part) → Routed (k.streams b.left) i a → 1 ≤ i → i ≤ (joined k h).streams b → is_some (record_at k h b a) ≡ true
 listed_at k h l g b i _ (in_left low) some most = l.listed b.left i some low
 listed_at k h l g b i _ (in_right high low) some most = g.listed b.right (i - k.streams b.left) (omega arith) (omega arith)
 listed_at k h l g b i _ (past high out) some most = let z : ⊥ = omega arith in absurd z
 
-numbered_at : {L R : Type 0} (k : Kind L) (h : Kind R) → Laws k → Laws h → (b : Joined L R) (i : ℕ) (r : Record) (a : Part) → Routed (k.streams b.left) i a → record_at k h b a ≡ Some r → (1 ≤ i) × (i ≤ (joined k h).streams b)
+numbered_at : {L R : Type 0} (k : Kind L) (h : Kind R) → Laws k → Laws h → (b : Joined L R) (i : ℕ) (r : Record) (a : Option Part) → Routed (k.streams b.left) i a → record_at k h b a ≡ Some r → (1 ≤ i) × (i ≤ (joined k h).streams b)
 numbered_at k h l g b i r _ (in_left low) e =
     let is = l.numbered b.left i r e in
     let few = l.few b.left in
@@ -63,41 +63,41 @@ numbered_at k h l g b i r _ (in_right high low) e =
     (omega arith, omega arith)
 numbered_at k h l g b i r _ (past high out) e = none_some r e
 
-ceilings_at : {L R : Type 0} (k : Kind L) (h : Kind R) → Laws k → Laws h → (b : Joined L R) (r : Record) (a : Part) → record_at k h b a ≡ Some r → Ceiling r.row (count_at k h b a) (ceiling_at k h b a)
-ceilings_at k h l g b r (Left i) e = l.ceilings b.left i r e
-ceilings_at k h l g b r (Right i) e = g.ceilings b.right i r e
-ceilings_at k h l g b r Nowhere e = none_some r e
+ceilings_at : {L R : Type 0} (k : Kind L) (h : Kind R) → Laws k → Laws h → (b : Joined L R) (r : Record) (a : Option Part) → record_at k h b a ≡ Some r → Ceiling r.row (count_at k h b a) (ceiling_at k h b a)
+ceilings_at k h l g b r (Some (Left i)) e = l.ceilings b.left i r e
+ceilings_at k h l g b r (Some (Right i)) e = g.ceilings b.right i r e
+ceilings_at k h l g b r None e = none_some r e
 
-within_at : {L R : Type 0} (k : Kind L) (h : Kind R) → Laws k → Laws h → (b : Joined L R) (r : Record) (m : ℕ) (a : Part) → (joined k h).begun b → record_at k h b a ≡ Some r → opening_at k h b a m ≤ ceiling_at k h b a m
-within_at k h l g b r m (Left i) on e = l.within b.left i r m on.0 e
-within_at k h l g b r m (Right i) on e = g.within b.right i r m on.1 e
-within_at k h l g b r m Nowhere on e = none_some r e
+within_at : {L R : Type 0} (k : Kind L) (h : Kind R) → Laws k → Laws h → (b : Joined L R) (r : Record) (m : ℕ) (a : Option Part) → (joined k h).begun b → record_at k h b a ≡ Some r → opening_at k h b a m ≤ ceiling_at k h b a m
+within_at k h l g b r m (Some (Left i)) on e = l.within b.left i r m on.0 e
+within_at k h l g b r m (Some (Right i)) on e = g.within b.right i r m on.1 e
+within_at k h l g b r m None on e = none_some r e
 
-ticked_at : {L R : Type 0} (k : Kind L) (h : Kind R) → Laws k → Laws h → (b c : Joined L R) (r : Record) (m : ℕ) (a : Part) → (joined k h).begun b → record_at k h b a ≡ Some r → (joined k h).ticks b c → opening_at k h c a m ≤ opening_at k h b a (m + 1)
-ticked_at k h l g b c r m (Left i) on e t = l.ticked b.left c.left i r m on.0 e t.0
-ticked_at k h l g b c r m (Right i) on e t = g.ticked b.right c.right i r m on.1 e t.1
-ticked_at k h l g b c r m Nowhere on e t = none_some r e
+ticked_at : {L R : Type 0} (k : Kind L) (h : Kind R) → Laws k → Laws h → (b c : Joined L R) (r : Record) (m : ℕ) (a : Option Part) → (joined k h).begun b → record_at k h b a ≡ Some r → (joined k h).ticks b c → opening_at k h c a m ≤ opening_at k h b a (m + 1)
+ticked_at k h l g b c r m (Some (Left i)) on e t = l.ticked b.left c.left i r m on.0 e t.0
+ticked_at k h l g b c r m (Some (Right i)) on e t = g.ticked b.right c.right i r m on.1 e t.1
+ticked_at k h l g b c r m None on e t = none_some r e
 
 -- Accepting leaves both parts with their streams.
-accept_keeps_at : {L R : Type 0} (k : Kind L) (h : Kind R) → Laws k → Laws h → (b c : Joined L R) (a : Part) → accepts_at k h b a c → Same k b.left c.left × Same h b.right c.right
-accept_keeps_at k h l g b c (Left i) t = (l.accept_keeps b.left c.left i t.0, same_if_equal h b.right c.right t.1)
-accept_keeps_at k h l g b c (Right i) t = (same_if_equal k b.left c.left t.1, g.accept_keeps b.right c.right i t.0)
-accept_keeps_at k h l g b c Nowhere t = absurd t
+accept_keeps_at : {L R : Type 0} (k : Kind L) (h : Kind R) → Laws k → Laws h → (b c : Joined L R) (a : Option Part) → accepts_at k h b a c → Same k b.left c.left × Same h b.right c.right
+accept_keeps_at k h l g b c (Some (Left i)) t = (l.accept_keeps b.left c.left i t.0, same_if_equal h b.right c.right t.1)
+accept_keeps_at k h l g b c (Some (Right i)) t = (same_if_equal k b.left c.left t.1, g.accept_keeps b.right c.right i t.0)
+accept_keeps_at k h l g b c None t = absurd t
 
-accept_begun_at : {L R : Type 0} (k : Kind L) (h : Kind R) → Laws k → Laws h → (b c : Joined L R) (a : Part) → (joined k h).begun b → accepts_at k h b a c → (joined k h).begun c
-accept_begun_at k h l g b c (Left i) on t =
+accept_begun_at : {L R : Type 0} (k : Kind L) (h : Kind R) → Laws k → Laws h → (b c : Joined L R) (a : Option Part) → (joined k h).begun b → accepts_at k h b a c → (joined k h).begun c
+accept_begun_at k h l g b c (Some (Left i)) on t =
     (l.accept_begun b.left c.left i on.0 t.0, subst (λ s. h.begun s) (sym t.1) on.1)
-accept_begun_at k h l g b c (Right i) on t =
+accept_begun_at k h l g b c (Some (Right i)) on t =
     (subst (λ s. k.begun s) (sym t.1) on.0, g.accept_begun b.right c.right i on.1 t.0)
-accept_begun_at k h l g b c Nowhere on t = absurd t
+accept_begun_at k h l g b c None on t = absurd t
 
-accepted_at : {L R : Type 0} (k : Kind L) (h : Kind R) → Laws k → Laws h → (b c : Joined L R) (r : Record) (m : ℕ) (a : Part) → (joined k h).begun b → record_at k h b a ≡ Some r → 0 < opening_at k h b a 0 → accepts_at k h b a c → opening_at k h c a m + 1 ≤ opening_at k h b a m
-accepted_at k h l g b c r m (Left i) on e free t = l.accepted b.left c.left i r m on.0 e free t.0
-accepted_at k h l g b c r m (Right i) on e free t = g.accepted b.right c.right i r m on.1 e free t.0
-accepted_at k h l g b c r m Nowhere on e free t = none_some r e
+accepted_at : {L R : Type 0} (k : Kind L) (h : Kind R) → Laws k → Laws h → (b c : Joined L R) (r : Record) (m : ℕ) (a : Option Part) → (joined k h).begun b → record_at k h b a ≡ Some r → 0 < opening_at k h b a 0 → accepts_at k h b a c → opening_at k h c a m + 1 ≤ opening_at k h b a m
+accepted_at k h l g b c r m (Some (Left i)) on e free t = l.accepted b.left c.left i r m on.0 e free t.0
+accepted_at k h l g b c r m (Some (Right i)) on e free t = g.accepted b.right c.right i r m on.1 e free t.0
+accepted_at k h l g b c r m None on e free t = none_some r e
 
 -- A stream of the other part is as it was.
-others_at : {L R : Type 0} (k : Kind L) (h : Kind R) → Laws k → Laws h → (b c : Joined L R) (i j : ℕ) (r : Record) (m : ℕ) (p q : Part) → Routed (k.streams b.left) i p → Routed (k.streams b.left) j q → (joined k h).begun b → record_at k h b q ≡ Some r → (j ≢ i) → accepts_at k h b p c → opening_at k h c q m ≤ opening_at k h b q m
+others_at : {L R : Type 0} (k : Kind L) (h : Kind R) → Laws k → Laws h → (b c : Joined L R) (i j : ℕ) (r : Record) (m : ℕ) (p q : Option Part) → Routed (k.streams b.left) i p → Routed (k.streams b.left) j q → (joined k h).begun b → record_at k h b q ≡ Some r → (j ≢ i) → accepts_at k h b p c → opening_at k h c q m ≤ opening_at k h b q m
 others_at k h l g b c i j r m _ _ (in_left x) (in_left y) on e apart t = l.others b.left c.left i j r m on.0 e apart t.0
 others_at k h l g b c i j r m _ _ (in_left x) (in_right y z) on e apart t = omega (arith, ap (λ s. h.opening s (j - k.streams b.left) m) t.1)
 others_at k h l g b c i j r m _ _ (in_left x) (past y z) on e apart t = none_some r e

@@ -1,9 +1,9 @@
 -- Where a stream of two joined banks is: the left part's streams come first, then the right part's, and none comes past the 33rd.
 
-use Rattle.std.specs.Prelude.{ℕ, ◌-◌, cond, nat_le}
+use Rattle.std.specs.Prelude.{ℕ, ◌-◌, cond, nat_le, Some, None, Option}
 use Rattle.join.specs.declared.Part.{Part}
-use Rattle.join.specs.declared.Part.TheVariants.{Left, Right, Nowhere}
+use Rattle.join.specs.declared.Part.TheVariants.{Left, Right}
 
 -- stream i, where the left part has so many streams
-abbrev pub route : ℕ → ℕ → Part
-route before i = cond (nat_le i before) (Left i) (cond (nat_le i 33) (Right (i - before)) Nowhere)
+abbrev pub route : ℕ → ℕ → Option Part
+route before i = cond (nat_le i before) (Some (Left i)) (cond (nat_le i 33) (Some (Right (i - before))) None)

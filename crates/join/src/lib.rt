@@ -2,7 +2,7 @@
 
 #![tactic(auto)]
 
-ghost use Rattle.std.specs.Prelude.{◌≡◌};
+ghost use Rattle.std.specs.Prelude.{◌≡◌, refl};
 ghost use Rattle.join.specs.Joins.{joined, place};
 ghost use Rattle.join.specs.JoinsLemmas.{joined_lawful};
 
@@ -12,15 +12,11 @@ use stream::{Record, Refusal};
 // No bank has more streams than this.
 const MOST: u64 = 33;
 
-// The letter of the kind. It has a name of its own, since the proof of a generic impl cannot look into its constants.
-const JOINED: char = 'J';
-
 // Which part has a stream, and the stream's number in that part.
 #[derive(Clone, Copy)]
 enum Part {
     Left(u64),
     Right(u64),
-    Nowhere,
 }
 
 // Two banks by value. A join of joins is a bank like any other.
@@ -48,16 +44,16 @@ impl<L: Bank, R: Bank> Joined<L, R> {
     }
 
     // The one place that turns a stream's number into that of a part.
-    fn route(&self, stream: u64) -> Part
+    fn route(&self, stream: u64) -> Option<Part>
         ensures { result ≡ place L.Bank.kind self.now stream }
     {
         let before = self.left.streams();
         if stream <= before {
-            Part::Left(stream)
+            Some(Part::Left(stream))
         } else if stream <= MOST {
-            Part::Right(stream - before)
+            Some(Part::Right(stream - before))
         } else {
-            Part::Nowhere
+            None
         }
     }
 }
@@ -65,13 +61,13 @@ impl<L: Bank, R: Bank> Joined<L, R> {
 impl<L: Bank, R: Bank> Bank for Joined<L, R> {
     ghost kind = { joined L.Bank.kind R.Bank.kind };
 
-    const LETTER: char = JOINED;
+    ghost LETTER = { 74 };
+
+    const LETTER: char = 'J';
+
+    ghost lettered = { refl };
 
     ghost lawful = { joined_lawful L.Bank.kind R.Bank.kind L.Bank.lawful R.Bank.lawful };
-
-    fn kind_letter(&self) -> char {
-        JOINED
-    }
 
     fn streams(&self) -> u64 {
         let all = self.left.streams() + self.right.streams();
@@ -79,34 +75,30 @@ impl<L: Bank, R: Bank> Bank for Joined<L, R> {
     }
 
     fn record_of(&self, stream: u64) -> Option<Record> {
-        match self.route(stream) {
+        match self.route(stream)? {
             Part::Left(at) => self.left.record_of(at),
             Part::Right(at) => self.right.record_of(at),
-            Part::Nowhere => None,
         }
     }
 
     fn count(&self, stream: u64) -> Option<u64> {
-        match self.route(stream) {
+        match self.route(stream)? {
             Part::Left(at) => self.left.count(at),
             Part::Right(at) => self.right.count(at),
-            Part::Nowhere => None,
         }
     }
 
     fn ceiling(&self, stream: u64, m: i64) -> Option<u64> {
-        match self.route(stream) {
+        match self.route(stream)? {
             Part::Left(at) => self.left.ceiling(at, m),
             Part::Right(at) => self.right.ceiling(at, m),
-            Part::Nowhere => None,
         }
     }
 
     fn opening(&self, stream: u64, m: i64) -> Option<u64> {
-        match self.route(stream) {
+        match self.route(stream)? {
             Part::Left(at) => self.left.opening(at, m),
             Part::Right(at) => self.right.opening(at, m),
-            Part::Nowhere => None,
         }
     }
 
@@ -121,10 +113,9 @@ impl<L: Bank, R: Bank> Bank for Joined<L, R> {
     }
 
     fn accept(&mut self, stream: u64) -> Result<(), Refusal> {
-        match self.route(stream) {
+        match self.route(stream).ok_or(Refusal::NoSuchStream)? {
             Part::Left(at) => self.left.accept(at),
             Part::Right(at) => self.right.accept(at),
-            Part::Nowhere => Err(Refusal::NoSuchStream),
         }
     }
 }

@@ -41,15 +41,14 @@ pub fn least<X: Ranked + Copy>(items: &[X]) -> Option<X>
     Some(best)
 }
 
-// The point nearest to failing comes first, then the shorter length, then the normal phase.
+// The nearest to failing comes first.
 impl Ranked for Point {
     ghost below = { point_below };
 
     ghost ranks = { ranks_points };
 
     fn precedes(&self, other: &Point) -> bool {
-        (self.margin, self.length, self.phase as u8)
-            < (other.margin, other.length, other.phase as u8)
+        *self < *other
     }
 }
 
@@ -59,6 +58,6 @@ impl Ranked for (u64, u64) {
     ghost ranks = { ranks_pairs };
 
     fn precedes(&self, other: &(u64, u64)) -> bool {
-        *self < *other
+        self < other
     }
 }

@@ -35,6 +35,6 @@ pub(crate) fn number_of(answer: Result<Verdict, Refusal>) -> i64
 {
     match answer {
         Ok(_) => 0,
-        Err(refusal) => refusal.number() as i64,
+        Err(refusal) => u64::from(refusal) as i64,
     }
 }

@@ -2,3 +2,4 @@ pub mod Limits
 pub mod Making
 pub mod Refusals
 pub mod Faults
+pub mod Shown

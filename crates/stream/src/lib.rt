@@ -3,10 +3,11 @@
 #![tactic(auto)]
 
 ghost use Rattle.std.specs.Prelude.{◌≡◌};
-ghost use Rattle.stream.specs.Faults.{placed};
+ghost use Rattle.stream.specs.Faults.{placed, whole_line};
 ghost use Rattle.stream.specs.Refusals.{number, letter};
 
 mod limits;
+mod shown;
 
 pub use limits::Record;
 
@@ -32,19 +33,20 @@ pub struct Row {
     pub gap: u64,
 }
 
-// The mode that a demand is computed for.
-#[derive(Clone, Copy, PartialEq, Eq, Debug)]
+// The mode that a demand is computed for. Normal comes before overrun.
+#[derive(Clone, Copy, PartialEq, Eq, PartialOrd, Ord, Debug)]
 pub enum Phase {
     Normal,
     Overrun,
 }
 
 // How near a plan comes to failing at one length of time: the length less the demand of a phase there.
-#[derive(Clone, Copy, PartialEq, Eq, Debug)]
+// The fields stand in the order in which points are compared, so that the nearest comes first, then the shorter length, then the normal phase.
+#[derive(Clone, Copy, PartialEq, Eq, PartialOrd, Ord, Debug)]
 pub struct Point {
-    pub phase: Phase,
-    pub length: u64,
     pub margin: i64,
+    pub length: u64,
+    pub phase: Phase,
 }
 
 // What the judgment of a bank found: the horizon, how many lengths it looked at, and the point that decided, or that came nearest to failing.
@@ -100,11 +102,11 @@ pub struct Fault {
     pub byte: u64,
 }
 
-impl Refusal {
-    pub fn number(&self) -> u64
-        ensures { result ≡ number self.now }
-    {
-        match self {
+impl From<Refusal> for u64 {
+    ghost from_gives = { λ refusal n. n ≡ number refusal };
+
+    fn from(refusal: Refusal) -> u64 {
+        match refusal {
             Refusal::OutOfShape => 1,
             Refusal::TooManyStreams => 2,
             Refusal::SporadicAfterRaster => 3,
@@ -131,11 +133,11 @@ impl Refusal {
     }
 }
 
-impl Layer {
-    pub fn letter(&self) -> char
-        ensures { result ≡ letter self.now }
-    {
-        match self {
+impl From<Layer> for char {
+    ghost from_gives = { λ layer c. c ≡ letter layer };
+
+    fn from(layer: Layer) -> char {
+        match layer {
             Layer::Text => 'T',
             Layer::Plan => 'P',
             Layer::Demand => 'D',
@@ -144,17 +146,23 @@ impl Layer {
     }
 }
 
-// Gives a refusal the place of a whole line, so that `?` can carry it on.
-pub fn at_line<X>(answer: Result<X, Refusal>, layer: Layer, line: u64) -> Result<X, Fault>
-    ensures { result ≡ placed answer layer line }
-{
-    match answer {
-        Ok(value) => Ok(value),
-        Err(refusal) => Err(Fault {
+impl Fault {
+    // A refusal at a whole line, so at no byte of it.
+    pub fn at_line(refusal: Refusal, layer: Layer, line: u64) -> Fault
+        ensures { result ≡ whole_line refusal layer line }
+    {
+        Fault {
             refusal,
             layer,
             line,
             byte: 0,
-        }),
+        }
     }
+}
+
+// Gives a refusal the place of a whole line, so that `?` can carry it on.
+pub fn at_line<X>(answer: Result<X, Refusal>, layer: Layer, line: u64) -> Result<X, Fault>
+    ensures { result ≡ placed answer layer line }
+{
+    answer.map_err(|refusal| Fault::at_line(refusal, layer, line))
 }

@@ -4,6 +4,7 @@ use Rattle.std.proofs.Common.{◌≡◌, ℕ, ◌+◌, ◌^◌, ◌<◌, ◌≤�
 use Rattle.std.proofs.lemmas.Fmt.{length-decimal-le, length_signed_le}
 use Rattle.std.specs.Fmt.{signed_decimal}
 use Rattle.stream.specs.Refusals.{number, letter}
+use Rattle.stream.specs.Shown.{decisive, phase_word, point_line}
 use Rattle.stream.specs.declared.Phase.{Phase}
 use Rattle.stream.specs.declared.Phase.TheVariants.{Normal, Overrun}
 use Rattle.stream.specs.declared.Point.{Point}
@@ -12,9 +13,10 @@ use Rattle.stream.specs.declared.Refusal.TheVariants.{OutOfShape, TooManyStreams
 use Rattle.stream.specs.declared.Verdict.{Verdict}
 use Rattle.text.specs.declared.answer.Answer.{Answer}
 use Rattle.text.specs.declared.answer.Answer.TheVariants.{Accepted, Refused, Took, Ran, Calm, Total}
-use Rattle.text.specs.Shown.{phase_word, point_line, decisive, end_word, settled_line, counts_line, answer_line}
+use Rattle.text.specs.Shown.{answer_line}
 use Rattle.text.specs.Sizes.{OrdinaryPoint, OrdinarySettled, OrdinaryCounts, Ordinary}
 use Rattle.text.specs.Words.{Small}
+use Rattle.turns.specs.Shown.{counts_line, end_word, settled_line}
 use Rattle.turns.specs.declared.Counts.{Counts}
 use Rattle.turns.specs.declared.End.{End}
 use Rattle.turns.specs.declared.End.TheVariants.{Going, Finished, Cut, Switch}
@@ -108,14 +110,16 @@ pub line_fits : (a : Answer) → Ordinary a → length (answer_line a) + 1 ≤ 8
 line_fits (Accepted v) o =
     let horizon : v.horizon ≤ 1000001 = omega (arith, o.0) in
     ends_in_line _ 59 (lit≤ tt)
-    (word (codes "(accepted ") (follow (seven v.horizon horizon) (word (codes " ") (follow (seven v.lengths o.1) (word (codes " ") (follow (point_within v.point o.2) closing))))))
+    (word (codes "(accepted ") (follow (follow (seven v.horizon horizon) (word (codes " ") (follow (seven v.lengths o.1) (word (codes " ") (point_within v.point o.2))))) closing))
 line_fits (Refused f) o =
     let r = refusal_within f.refusal o.2 in
     let fits : number f.refusal < 2 ^ 64 = omega (arith, r.0) in
     ends_in_line _ 61 (lit≤ tt)
     (word (codes "(refused ")
+    (follow
     (follow (number_within 2 (number f.refusal) (lit< tt) r.0 fits)
-    (word (codes " ") (word (letter f.layer ∷ []) (word (codes " (") (follow (five f.line o.0) (word (codes " ") (follow (five f.byte o.1) (word (codes ")") (follow r.1 closing))))))))))
+    (word (codes " ") (word (letter f.layer ∷ []) (word (codes " (") (follow (five f.line o.0) (word (codes " ") (follow (five f.byte o.1) (word (codes ")") r.1))))))))
+    closing))
 line_fits (Took stream) o = ends_in_line _ 20 (lit≤ tt) (word (codes "(took ") (follow (thirteen stream o) closing))
 line_fits (Ran settled) o = ends_in_line _ 28 (lit≤ tt) (word (codes "(ran ") (follow (settled_within settled o) closing))
 line_fits (Calm moment) o = ends_in_line _ 20 (lit≤ tt) (word (codes "(calm ") (follow (thirteen moment (omega arith)) closing))

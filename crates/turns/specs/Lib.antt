@@ -3,3 +3,4 @@ pub mod Steps
 pub mod Runs
 pub mod Ledgers
 pub mod Law
+pub mod Shown

@@ -11,6 +11,8 @@ use bank::Bank;
 use demand::admit;
 use stream::{Class, Phase, Refusal, Row, Verdict};
 
+mod shown;
+
 // Who has a turn.
 #[derive(Clone, Copy)]
 pub enum Turn {

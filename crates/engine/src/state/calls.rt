@@ -171,7 +171,6 @@ impl<B: Bank> Engine<B> {
         ensures letter { result.letter ≡ B.kind.letter }
     {
         let Engine { bank, state } = self;
-        let letter = bank.kind_letter();
         let counts = Counts {
             accepted: state.tally.accepted,
             finished: state.tally.finished,
@@ -182,7 +181,7 @@ impl<B: Bank> Engine<B> {
         Report {
             counts,
             bank,
-            letter,
+            letter: B::LETTER,
         }
     }
 }

@@ -1,6 +1,6 @@
 // Making and growing a raster, and how it is a bank.
 
-ghost use Rattle.std.specs.Prelude.{◌≡◌, [], IfOk};
+ghost use Rattle.std.specs.Prelude.{◌≡◌, [], IfOk, refl};
 ghost use Rattle.table.specs.Growing.{GrownOn};
 ghost use Rattle.table.specs.Rasters.{phases_in, raster, raster_states};
 ghost use Rattle.table.specs.Shortening.{AllShortened, Shortening};
@@ -58,7 +58,11 @@ impl Raster {
 impl Bank for Raster {
     ghost kind = { raster };
 
+    ghost LETTER = { 82 };
+
     const LETTER: char = 'R';
+
+    ghost lettered = { refl };
 
     ghost lawful = { tabled_lawful raster.letter (λ b. b.table) raster.begins raster.ticks raster.accepts
         (λ b. b.few)
@@ -66,10 +70,6 @@ impl Bank for Raster {
         (λ b c e. waits_keep (λ s. next_wait s.wait s.stream.row.gap) (raster_states b) (raster_states c) e.0)
         (λ b c i m e. turned_opens_no_more (raster_states b) (raster_states c) i m e.0)
         (λ b c i a. a.0) };
-
-    fn kind_letter(&self) -> char {
-        Self::LETTER
-    }
 
     fn streams(&self) -> u64 {
         self.table.streams()

@@ -1,6 +1,6 @@
 // Making and growing a sporadic table, and how it is a bank.
 
-ghost use Rattle.std.specs.Prelude.{◌≡◌, ◌-◌, [], IfOk};
+ghost use Rattle.std.specs.Prelude.{◌≡◌, ◌-◌, [], IfOk, refl};
 ghost use Rattle.table.specs.Growing.{Grown};
 ghost use Rattle.table.specs.Shortening.{AllShortened, Shortening};
 ghost use Rattle.table.specs.Sporadics.{sporadic, states_in};
@@ -49,7 +49,11 @@ impl Sporadic {
 impl Bank for Sporadic {
     ghost kind = { sporadic };
 
+    ghost LETTER = { 83 };
+
     const LETTER: char = 'S';
+
+    ghost lettered = { refl };
 
     ghost lawful = { tabled_lawful sporadic.letter (λ b. b.table) sporadic.begins sporadic.ticks sporadic.accepts
         (λ b. b.few)
@@ -57,10 +61,6 @@ impl Bank for Sporadic {
         (λ b c e. waits_keep (λ s. s.wait - 1) (states_in b) (states_in c) e)
         (λ b c i m e. lowered_opens_no_more (states_in b) (states_in c) i m e)
         (λ b c i closes. closes) };
-
-    fn kind_letter(&self) -> char {
-        Self::LETTER
-    }
 
     fn streams(&self) -> u64 {
         self.table.streams()
