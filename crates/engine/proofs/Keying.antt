@@ -1,8 +1,8 @@
 -- The keys of the waiting jobs, collected one stream after another, and who is next by them.
 
-use Rattle.std.proofs.Common.{◌≡◌, ℕ, zero, suc, ◌+◌, ◌-◌, ◌<◌, ◌≤◌, List, [], ◌∷◌, ◌++◌, length, get_or, take, drop, set, is_some, Some, None, Option, sym, refl, ap, ◌∙◌, subst, arith}
+use Rattle.std.proofs.Common.{◌≡◌, ℕ, zero, suc, ◌+◌, ◌-◌, ◌<◌, ◌≤◌, List, [], ◌∷◌, ◌++◌, length, get_or, drop, is_some, Some, None, Option, sym, refl, ap, ◌∙◌, subst, arith}
 use borrow.Author.Tests.{clash}
-use Rattle.std.proofs.lemmas.List.{append_assoc, append-nil, at_drop_more, drop_all, take_more_set}
+use Rattle.std.proofs.lemmas.List.{append_assoc, append-nil, at_drop_more, drop_all}
 use Rattle.stream.specs.declared.Phase.{Phase}
 use Rattle.least.specs.Firsts.{FirstLeast}
 use Rattle.least.specs.Orders.{pair_below}
@@ -14,23 +14,22 @@ use Rattle.turns.specs.declared.Turn.TheVariants.{Idle, Of}
 use Rattle.engine.specs.Keys.{keys}
 
 -- what has been collected, with the keys of the jobs from place `at` on, gives all keys
-abbrev pub Collected : Phase → List (Option Job) → ℕ → List (ℕ × ℕ) → ℕ → Type 0
-Collected mode jobs at found count = take count found ++ keys mode (at + 1) (drop at jobs) ≡ keys mode 1 jobs
+abbrev pub Collected : Phase → List (Option Job) → ℕ → List (ℕ × ℕ) → Type 0
+Collected mode jobs at found = found ++ keys mode (at + 1) (drop at jobs) ≡ keys mode 1 jobs
 
-pub collected_free : (mode : Phase) (jobs : List (Option Job)) (at count : ℕ) (found : List (ℕ × ℕ)) → at < length jobs → get_or jobs at None ≡ None → Collected mode jobs at found count → Collected mode jobs (at + 1) found count
-collected_free mode jobs at count found here none h =
-    ap (λ (ks : List (ℕ × ℕ)). take count found ++ ks) (sym (at_drop_more (keys mode (at + 1)) jobs at None here ∙ ap (λ (x : Option Job). keys mode (at + 1) (x ∷ drop (at + 1) jobs)) none)) ∙ h
+at_place : (mode : Phase) (jobs : List (Option Job)) (at : ℕ) (x : Option Job) → at < length jobs → get_or jobs at None ≡ x → keys mode (at + 1) (drop at jobs) ≡ keys mode (at + 1) (x ∷ drop (at + 1) jobs)
+at_place mode jobs at x here is = at_drop_more (keys mode (at + 1)) jobs at None here ∙ ap (λ (o : Option Job). keys mode (at + 1) (o ∷ drop (at + 1) jobs)) is
 
-pub collected_job : (mode : Phase) (jobs : List (Option Job)) (at count : ℕ) (found : List (ℕ × ℕ)) (j : Job) → at < length jobs → count < length found → get_or jobs at None ≡ Some j → Collected mode jobs at found count → Collected mode jobs (at + 1) (set found count (key mode (at + 1) j)) (count + 1)
-collected_job mode jobs at count found j here room is h =
-    let rest = keys mode (at + 1 + 1) (drop (at + 1) jobs) in
-    let k = key mode (at + 1) j in
-    ap (λ (ks : List (ℕ × ℕ)). ks ++ rest) (take_more_set found count k room)
-    ∙ append_assoc (take count found) (k ∷ []) rest
-    ∙ ap (λ (ks : List (ℕ × ℕ)). take count found ++ ks) (sym (at_drop_more (keys mode (at + 1)) jobs at None here ∙ ap (λ (x : Option Job). keys mode (at + 1) (x ∷ drop (at + 1) jobs)) is)) ∙ h
+pub collected_free : (mode : Phase) (jobs : List (Option Job)) (at : ℕ) (found : List (ℕ × ℕ)) → at < length jobs → get_or jobs at None ≡ None → Collected mode jobs at found → Collected mode jobs (at + 1) found
+collected_free mode jobs at found here none h = ap (λ (ks : List (ℕ × ℕ)). found ++ ks) (sym (at_place mode jobs at None here none)) ∙ h
 
-pub collected_all : (mode : Phase) (jobs : List (Option Job)) (at count : ℕ) (found : List (ℕ × ℕ)) → length jobs ≤ at → Collected mode jobs at found count → take count found ≡ keys mode 1 jobs
-collected_all mode jobs at count found past h = sym (append-nil (take count found)) ∙ sym (ap (λ (xs : List (Option Job)). take count found ++ keys mode (at + 1) xs) (drop_all at jobs past)) ∙ h
+pub collected_job : (mode : Phase) (jobs : List (Option Job)) (at : ℕ) (found : List (ℕ × ℕ)) (j : Job) → at < length jobs → get_or jobs at None ≡ Some j → Collected mode jobs at found → Collected mode jobs (at + 1) (found ++ key mode (at + 1) j ∷ [])
+collected_job mode jobs at found j here is h =
+    append_assoc found (key mode (at + 1) j ∷ []) (keys mode (at + 1 + 1) (drop (at + 1) jobs))
+    ∙ ap (λ (ks : List (ℕ × ℕ)). found ++ ks) (sym (at_place mode jobs at (Some j) here is)) ∙ h
+
+pub collected_all : (mode : Phase) (jobs : List (Option Job)) (at : ℕ) (found : List (ℕ × ℕ)) → length jobs ≤ at → Collected mode jobs at found → found ≡ keys mode 1 jobs
+collected_all mode jobs at found past h = sym (append-nil found) ∙ sym (ap (λ (xs : List (Option Job)). found ++ keys mode (at + 1) xs) (drop_all at jobs past)) ∙ h
 
 -- each waiting job has a key, and each key is of a waiting job
 key_there : (mode : Phase) (first : ℕ) (jobs : List (Option Job)) (n : ℕ) (j : Job) → get_or jobs n None ≡ Some j → (p : ℕ) × (p < length (keys mode first jobs)) × ((d : ℕ × ℕ) → get_or (keys mode first jobs) p d ≡ key mode (first + n) j)

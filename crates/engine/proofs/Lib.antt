@@ -1,4 +1,3 @@
 pub mod Soundness
 pub mod Granting
 pub mod Keying
-pub mod Tallying

@@ -1,4 +1,3 @@
 pub mod Sound
 pub mod Keys
-pub mod Dropping
 pub mod Reports

@@ -1,9 +1,11 @@
 // Whose turn is next.
 
-ghost use Rattle.std.specs.Prelude.{◌≡◌, ◌<◌, ◌≤◌, length};
+ghost use Rattle.std.specs.Prelude.{◌≡◌, ◌≤◌, length};
 ghost use Rattle.turns.specs.Steps.{Next, key, last_moment};
 ghost use Rattle.engine.specs.Sound.{Near, Worked};
 
+use crate::PLACES;
+use arrayvec::ArrayVec;
 use least::least;
 use stream::Phase;
 use turns::{Job, State, Turn};
@@ -30,16 +32,13 @@ pub(crate) fn next_turn(state: &State) -> Turn
     requires near { Near state.now }
     ensures { Next state.now result }
 {
-    let mut keys = [(0, 0); 32];
-    let mut waiting = 0;
-    for at in 0..32 {
-        let slot = state.jobs[at];
-        if let Some(job) = slot {
-            keys[waiting] = key_of(state.mode, at as u64 + 1, job);
-            waiting += 1;
+    let mut keys = ArrayVec::<(u64, u64), 32>::new();
+    for stream in 1..PLACES + 1 {
+        if let Some(job) = state.jobs.of(stream) {
+            keys.push(key_of(state.mode, stream, job));
         }
     }
-    match least(&keys[..waiting]) {
+    match least(keys.as_slice()) {
         Some((_, stream)) => Turn::Of(stream),
         None => Turn::Idle,
     }

@@ -103,9 +103,7 @@ impl<B: Bank> Bank for Gated<B> {
     fn accept(&mut self, stream: u64) -> Result<(), Refusal> {
         match self.gate {
             Gate::Shut => {
-                self.inner
-                    .record_of(stream)
-                    .ok_or(Refusal::NoSuchStream)?;
+                self.inner.record_of(stream).ok_or(Refusal::NoSuchStream)?;
                 Err(Refusal::NotOpen)
             }
             Gate::Open(_) => self.inner.accept(stream),

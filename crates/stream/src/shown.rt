@@ -21,7 +21,11 @@ impl fmt::Display for Point {
     ghost output = { λ point. Some (point_line point) };
 
     fn fmt<W: fmt::Write>(&self, f: &mut fmt::Formatter<W>) -> fmt::Result {
-        let Point { margin, length, phase } = self;
+        let Point {
+            margin,
+            length,
+            phase,
+        } = self;
         write!(f, "({phase} {length} {margin})")
     }
 }

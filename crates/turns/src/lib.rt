@@ -11,7 +11,10 @@ use bank::Bank;
 use demand::admit;
 use stream::{Class, Phase, Refusal, Row, Verdict};
 
+mod jobs;
 mod shown;
+
+pub use jobs::Jobs;
 
 // Who has a turn.
 #[derive(Clone, Copy)]
@@ -73,8 +76,7 @@ pub struct State {
     pub verdict: Result<Verdict, Refusal>,
     // the turn that is out
     pub turn: Option<Turn>,
-    // at most one job of each stream
-    pub jobs: [Option<Job>; 32],
+    pub jobs: Jobs,
     pub tally: Tally,
 }
 
@@ -105,7 +107,7 @@ impl State {
             mode: Phase::Normal,
             verdict,
             turn: None,
-            jobs: [None; 32],
+            jobs: Jobs::none(),
             tally: Tally {
                 accepted: 0,
                 finished: 0,

@@ -1,4 +1,4 @@
-use Rattle.std.proofs.Common.{◌≡◌, true, is_some, Some, None, Option, sym, refl, ap, ◌∙◌}
+use Rattle.std.proofs.Common.{◌≡◌, true, is_some, Some, None, Option, sym, refl, ◌∙◌}
 use borrow.Author.Tests.{clash}
 use Rattle.stream.specs.declared.limits.Record.{Record}
 use Rattle.bank.proofs.Ruling.{rules_hold}

@@ -7,14 +7,11 @@ ghost use Rattle.turns.specs.Steps.{Calmed, Picked, Released, Started, TurnSettl
 ghost use Rattle.engine.specs.Reports.{counts_of};
 
 use crate::choosing::next_turn;
-use crate::settling::{settle_turn, waiting_jobs};
-use crate::{Engine, Report, Slip};
+use crate::settling::settle_turn;
+use crate::{Engine, PLACES, Report, Slip};
 use bank::Bank;
 use stream::{Class, Phase, Refusal, Verdict};
-use turns::{Counts, Job, LAST_MOMENT, Settled, begin};
-
-// The streams that an engine has a place for.
-const PLACES: u64 = 32;
+use turns::{Counts, Job, LAST_MOMENT, Settled, Tally, begin};
 
 impl<B: Bank> Engine<B> {
     // Begins the bank at a moment and judges it: the engine is open, or shut by the refusal. Whatever is then called, in whatever order, no job is late and none is lost, by the ledger of those calls.
@@ -37,20 +34,14 @@ impl<B: Bank> Engine<B> {
     fn is_shut(&self) -> bool
         ensures { result ≡ is_shut self.now.state.verdict }
     {
-        match self.verdict() {
-            Ok(_) => false,
-            Err(_) => true,
-        }
+        self.verdict().is_err()
     }
 
     // Whether releases of a class are refused in this mode.
     fn shuns(&self, class: Class) -> bool
         ensures { result ≡ (background class && in_overrun self.now.state.mode) }
     {
-        match (class, self.state.mode) {
-            (Class::Background, Phase::Overrun) => true,
-            _ => false,
-        }
+        class == Class::Background && self.state.mode == Phase::Overrun
     }
 
     // Lets a job of a stream in, if the bank does.
@@ -60,9 +51,7 @@ impl<B: Bank> Engine<B> {
         if self.is_shut() {
             return Err(Refusal::Shut);
         }
-        let Some(record) = self.bank.record_of(stream) else {
-            return Err(Refusal::NoSuchStream);
-        };
+        let record = self.bank.record_of(stream).ok_or(Refusal::NoSuchStream)?;
         if stream > PLACES {
             return Err(Refusal::NoSuchStream);
         }
@@ -73,23 +62,21 @@ impl<B: Bank> Engine<B> {
         if self.shuns(row.class) {
             return Err(Refusal::BackgroundInOverrun);
         }
-        let at = (stream - 1) as usize;
-        let since = self.moment();
-        let slot = self.state.jobs[at];
-        if slot.is_some() {
+        if self.state.jobs.of(stream).is_some() {
             return Err(Refusal::NotOpen);
         }
         self.bank.accept(stream)?;
-        self.state.jobs[at] = Some(Job {
+        let job = Job {
             row,
-            since,
+            since: self.moment(),
             units: 0,
-        });
+        };
+        self.state.jobs.put(stream, Some(job));
         self.state.tally.accepted += 1;
         Ok(())
     }
 
-    // Why no turn can be handed out, if none can.
+    // Why no turn can be handed out, if none can. The slip keeps it, so it is no error to carry on.
     fn pick_refusal(&self) -> Option<Refusal>
         ensures { result ≡ pick_refusal self.now.state }
     {
@@ -110,14 +97,12 @@ impl<B: Bank> Engine<B> {
         ensures picked { Picked self.old.state result.void self.new.state }
         ensures bank { self.new.bank ≡ self.old.bank }
     {
-        if let Some(refusal) = self.pick_refusal() {
-            return Slip {
-                void: Some(refusal),
-            };
+        let void = self.pick_refusal();
+        if void.is_none() {
+            let turn = next_turn(&self.state);
+            self.state.turn = Some(turn);
         }
-        let turn = next_turn(&self.state);
-        self.state.turn = Some(turn);
-        Slip { void: None }
+        Slip { void }
     }
 
     // Settles the turn that is out: done or not. The slip is spent; the engine itself knows whose turn it is.
@@ -128,12 +113,9 @@ impl<B: Bank> Engine<B> {
         if void.is_some() {
             return Err(Refusal::NoTurnToSettle);
         }
-        let Some(turn) = self.state.turn else {
-            return Err(Refusal::NoTurnToSettle);
-        };
+        let turn = self.state.turn.ok_or(Refusal::NoTurnToSettle)?;
         self.bank.tick();
-        let settled = settle_turn(&mut self.state, turn, done);
-        Ok(settled)
+        Ok(settle_turn(&mut self.state, turn, done))
     }
 
     // Returns to normal mode, once no job waits.
@@ -147,10 +129,10 @@ impl<B: Bank> Engine<B> {
         if self.state.turn.is_some() {
             return Err(Refusal::TurnOut);
         }
-        let Phase::Overrun = self.state.mode else {
+        if self.state.mode == Phase::Normal {
             return Err(Refusal::AlreadyNormal);
-        };
-        if waiting_jobs(&self.state) > 0 {
+        }
+        if self.state.jobs.waiting() > 0 {
             return Err(Refusal::JobWaits);
         }
         self.state.mode = Phase::Normal;
@@ -171,12 +153,18 @@ impl<B: Bank> Engine<B> {
         ensures letter { result.letter ≡ B.kind.letter }
     {
         let Engine { bank, state } = self;
+        let Tally {
+            accepted,
+            finished,
+            cut,
+            dropped,
+        } = state.tally;
         let counts = Counts {
-            accepted: state.tally.accepted,
-            finished: state.tally.finished,
-            cut: state.tally.cut,
-            dropped: state.tally.dropped,
-            waiting: waiting_jobs(&state),
+            accepted,
+            finished,
+            cut,
+            dropped,
+            waiting: state.jobs.waiting(),
         };
         Report {
             counts,

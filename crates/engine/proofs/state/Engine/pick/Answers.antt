@@ -1,7 +1,7 @@
 use Rattle.std.proofs.Common.{◌≡◌, ℕ, ◌≤◌, leb, is_some, None, sym, refl, ◌∙◌, subst}
 use Rattle.std.proofs.lemmas.Bool.{leb-false}
 use Rattle.stream.specs.declared.Refusal.TheVariants.{Shut, TurnOut, LastMoment}
-use Rattle.turns.proofs.Lasting.{job_place, passed}
+use Rattle.turns.proofs.Lasting.{job_place, none_is, passed}
 use Rattle.turns.specs.Steps.{Next, is_shut, last_moment, pick_refusal, with_turn}
 use Rattle.turns.specs.declared.Turn.TheVariants.{Of}
 use Rattle.engine.proofs.Soundness.{fields, sound_turn}
@@ -12,7 +12,7 @@ invariant_of-self g c =
     let e = c.args.self.now in
     let s = e.state in
     let turn = c.next_turn-turn.result in
-    let free : pick_refusal s ≡ None = sym c.pick_refusal.ensures ∙ c.in_default.is in
+    let free : pick_refusal s ≡ None = sym c.pick_refusal-void.ensures ∙ none_is c.pick_refusal-void.result c.if-is_none.ensures in
     let not_shut = passed (is_shut s.verdict) Shut _ free in
     let no_turn = passed (is_some s.turn) TurnOut _ not_shut.1 in
     let early = passed (leb last_moment s.moment) LastMoment None no_turn.1 in

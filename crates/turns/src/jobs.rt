@@ -1,0 +1,95 @@
+// The jobs that wait.
+
+ghost use Rattle.std.specs.Prelude.{◌≡◌, ◌-◌, ◌≤◌, List, map, length, replicate, None, count_by, Option};
+ghost use Rattle.turns.specs.Jobs.{is_background, job_of, put, shed, waiting};
+ghost use Rattle.turns.specs.declared.Job.{Job as Waiting};
+
+use crate::Job;
+use std::marker::Model;
+use stream::Class;
+
+// At most one job of each of 32 streams, seen as the list of their places.
+#[derive(Clone, Copy)]
+pub struct Jobs {
+    places: [Option<Job>; 32],
+}
+
+impl Model for Jobs {
+    ghost Value = { List (Option Waiting) };
+
+    ghost view = { λ jobs. jobs.places };
+
+    ghost invariant = { λ jobs. length jobs.places ≡ 32 };
+
+    ghost inverse = { λ places. record { places = places } };
+}
+
+// Streams are numbered from 1, and places from 0.
+fn place_of(stream: u64) -> usize
+    ensures { result ≡ stream - 1 }
+{
+    stream.saturating_sub(1) as usize
+}
+
+impl Jobs {
+    pub fn none() -> Jobs
+        ensures { result ≡ replicate 32 None }
+    {
+        Jobs { places: [None; 32] }
+    }
+
+    // The job of a stream, if one waits.
+    pub fn of(&self, stream: u64) -> Option<Job>
+        ensures job { result ≡ job_of self.now stream }
+        ensures room { length self.now ≡ 32 }
+    {
+        *self.places.get(place_of(stream))?
+    }
+
+    // Leaves a stream with this job, or with none. No stream after the 32nd has a place.
+    pub fn put(&mut self, stream: u64, job: Option<Job>)
+        ensures { self.new ≡ put self.old stream job }
+    {
+        let at = place_of(stream);
+        if at < self.places.len() {
+            self.places[at] = job;
+        }
+    }
+
+    pub fn waiting(&self) -> u64
+        ensures { result ≡ waiting self.now }
+    {
+        self.places.iter().filter(|place| place.is_some()).count() as u64
+    }
+
+    // Drops the background jobs, and tells how many there were.
+    pub fn drop_background(&mut self) -> u64
+        ensures left { self.new ≡ map shed self.old }
+        ensures dropped { result ≡ count_by is_background self.old }
+        ensures few { result ≤ 32 }
+    {
+        let dropped = self
+            .places
+            .iter()
+            .filter(|place| is_background(**place))
+            .count() as u64;
+        self.places = self.places.map(|place| shed(place));
+        dropped
+    }
+}
+
+fn is_background(place: Option<Job>) -> bool
+    ensures { result ≡ is_background place }
+{
+    place.is_some_and(|job| job.row.class == Class::Background)
+}
+
+// What is left of a place where background jobs are dropped.
+fn shed(place: Option<Job>) -> Option<Job>
+    ensures { result ≡ shed place }
+{
+    match place {
+        Some(job) if job.row.class == Class::Background => None,
+        _ => place,
+    }
+}
