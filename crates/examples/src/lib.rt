@@ -2,10 +2,13 @@
 
 #![tactic(auto)]
 
+#[cfg(test)]
+mod plans;
 mod runs;
 
 #[cfg(test)]
 mod tests {
+    use crate::plans::{LOCK, PREVIEW, bank_of_two};
     use bank::{Bank, most_accepted};
     use demand::{admit, demand_at, load, sporadic_share};
     use join::Joined;
@@ -13,48 +16,19 @@ mod tests {
     use server::replay;
     use std::alloc::Global;
     use std::test::Fail;
-    use stream::{Class, Phase, Point, Record, Refusal, Row};
+    use stream::{Phase, Point, Record, Refusal};
     use table::{Raster, Shortfall, Sporadic};
-
-    const LOCK: Row = Row {
-        class: Class::Critical,
-        budget: 2,
-        certain: 4,
-        short: 2,
-        deadline: 6,
-        gap: 6,
-    };
-
-    const PREVIEW: Row = Row {
-        class: Class::Background,
-        budget: 3,
-        certain: 0,
-        short: 6,
-        deadline: 6,
-        gap: 6,
-    };
-
-    fn bank_of_two(heap: Global) -> Result<Sporadic, Fail> {
-        let mut bank = Sporadic::new(heap)?;
-        bank.grow(Record::new(LOCK)?)?;
-        bank.grow(Record::new(PREVIEW)?)?;
-        Ok(bank)
-    }
 
     #[test]
     fn demands_at_each_length(rt: HostRuntime) -> Result<(), Fail> {
         let bank = bank_of_two(rt.alloc())?;
         let normal = [0u64, 0, 2, 2, 2, 2, 5];
         let overrun = [0u64, 0, 0, 0, 2, 3, 4];
-        for length in 0..7 {
-            assert_eq!(rt;
-                demand_at(&bank, Phase::Normal, length as u64),
-                Some(normal[length])
-            );
-            assert_eq!(rt;
-                demand_at(&bank, Phase::Overrun, length as u64),
-                Some(overrun[length])
-            );
+        for (length, demand) in (0..).zip(normal) {
+            assert_eq!(rt; demand_at(&bank, Phase::Normal, length), Some(demand));
+        }
+        for (length, demand) in (0..).zip(overrun) {
+            assert_eq!(rt; demand_at(&bank, Phase::Overrun, length), Some(demand));
         }
         assert_eq!(rt; demand_at(&bank, Phase::Normal, 1000001), None);
         Ok(())
@@ -65,8 +39,8 @@ mod tests {
     fn shares_at_each_length(rt: HostRuntime) -> Result<(), Fail> {
         let lock = Record::new(LOCK)?;
         let shares = [0u64, 0, 0, 0, 2, 3, 4];
-        for length in 0..7 {
-            assert_eq!(rt; sporadic_share(lock, length as u64), Some(shares[length]));
+        for (length, share) in (0..).zip(shares) {
+            assert_eq!(rt; sporadic_share(lock, length), Some(share));
         }
         assert_eq!(rt; sporadic_share(lock, 1000001), None);
         Ok(())
@@ -87,6 +61,7 @@ mod tests {
         Ok(())
     }
 
+    // The loop stands in three examples: a function for it would have to take a handle that may stop.
     #[test]
     fn answers_to_plans(rt: HostRuntime) -> Result<(), Fail> {
         let cases = [
@@ -315,10 +290,8 @@ mod tests {
     }
 
     fn short_of(bank: &Sporadic, stream: u64) -> u64 {
-        match bank.record_of(stream) {
-            Some(record) => record.row().short,
-            None => 0,
-        }
+        bank.record_of(stream)
+            .map_or(0, |record| record.row().short)
     }
 
     #[test]

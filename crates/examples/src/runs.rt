@@ -2,37 +2,16 @@
 
 #[cfg(test)]
 mod tests {
-    use bank::Bank;
+    use crate::plans::bank_of_two;
     use engine::{Engine, Report};
     use std::alloc::Global;
     use std::test::Fail;
-    use stream::{Class, Record, Refusal, Row};
+    use stream::Refusal;
     use table::Sporadic;
     use turns::{Counts, End, LAST_MOMENT, Settled};
 
-    const LOCK: Row = Row {
-        class: Class::Critical,
-        budget: 2,
-        certain: 4,
-        short: 2,
-        deadline: 6,
-        gap: 6,
-    };
-
-    const PREVIEW: Row = Row {
-        class: Class::Background,
-        budget: 3,
-        certain: 0,
-        short: 6,
-        deadline: 6,
-        gap: 6,
-    };
-
     fn started(heap: Global, moment: u64) -> Result<Engine<Sporadic>, Fail> {
-        let mut bank = Sporadic::new(heap)?;
-        bank.grow(Record::new(LOCK)?)?;
-        bank.grow(Record::new(PREVIEW)?)?;
-        Ok(Engine::start(bank, moment))
+        Ok(Engine::start(bank_of_two(heap)?, moment))
     }
 
     fn turn(engine: &mut Engine<Sporadic>, done: bool) -> Result<Settled, Refusal> {
@@ -118,16 +97,8 @@ mod tests {
         let mut late = Engine::start(bank, LAST_MOMENT + 1);
         assert_eq!(rt; late.release(1), Err(Refusal::Shut));
         assert_eq!(rt; late.calm(), Err(Refusal::Shut));
-        match late.verdict() {
-            Ok(_) => {
-                assert!(rt; false);
-                Ok(())
-            },
-            Err(refusal) => {
-                assert_eq!(rt; refusal, Refusal::MomentTooLate);
-                Ok(())
-            },
-        }
+        assert_eq!(rt; late.verdict(), Err(Refusal::MomentTooLate));
+        Ok(())
     }
 
     // The engine's own record says whose turn it is, whichever slip is settled.
