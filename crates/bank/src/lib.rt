@@ -13,7 +13,7 @@ ghost use Rattle.bank.specs.Runs.{AtMost};
 
 use stream::{Record, Refusal};
 
-// A signed m of a question to a bank: outside the range in which it is asked, before moment 0, or at m.
+// A signed m of a question to a bank: outside the range in which it is asked, before moment 0, or at m. An Option of an Option would name none of the three.
 #[derive(Clone, Copy)]
 pub enum Question {
     Outside,

@@ -45,6 +45,7 @@ pub(crate) fn settle_turn(state: &mut State, turn: Turn, done: bool) -> Settled
 {
     state.moment += 1;
     state.turn = None;
+    // Nobody ran is an answer and no refusal, so nothing is carried by `?`.
     let Turn::Of(stream) = turn else {
         return Settled::Idle;
     };

@@ -16,7 +16,7 @@ mod shown;
 
 pub use jobs::Jobs;
 
-// Who has a turn.
+// Who has a turn. No Option, since a turn may be out or not, and idle is a turn that is out.
 #[derive(Clone, Copy)]
 pub enum Turn {
     Idle,
@@ -42,7 +42,7 @@ pub enum End {
     Switch,
 }
 
-// Whose turn was settled, and how it ended.
+// Whose turn was settled, and how it ended. A type of its own, since it is printed.
 #[derive(Clone, Copy, PartialEq, Eq, Debug)]
 pub enum Settled {
     Idle,

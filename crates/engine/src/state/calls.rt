@@ -1,9 +1,10 @@
 // The calls of an engine. Each gives exactly its step of a run.
 
-ghost use Rattle.std.specs.Prelude.{◌≡◌, ◌&&◌};
+ghost use Rattle.std.specs.Prelude.{◌≡◌, ◌&&◌, true, false, is_some, Some, None, MatchResult};
+ghost use Rattle.stream.specs.declared.Refusal.TheVariants.{Shut, TurnOut};
 ghost use Rattle.turns.specs.Jobs.{background};
 ghost use Rattle.turns.specs.Law.{NoneLate};
-ghost use Rattle.turns.specs.Steps.{Calmed, Picked, Released, Started, TurnSettled, in_overrun, is_shut, pick_refusal};
+ghost use Rattle.turns.specs.Steps.{Calmed, Picked, Released, Started, TurnSettled, in_overrun, is_shut};
 ghost use Rattle.engine.specs.Reports.{counts_of};
 
 use crate::choosing::next_turn;
@@ -31,10 +32,21 @@ impl<B: Bank> Engine<B> {
         self.state.verdict
     }
 
-    fn is_shut(&self) -> bool
-        ensures { result ≡ is_shut self.now.state.verdict }
+    // A shut engine refuses every call.
+    fn not_shut(&self) -> Result<(), Refusal>
+        ensures { MatchResult result (λ _. is_shut self.now.state.verdict ≡ false) (λ e. (is_shut self.now.state.verdict ≡ true) × (e ≡ Shut)) }
     {
-        self.verdict().is_err()
+        self.verdict().map(|_| ()).map_err(|_| Refusal::Shut)
+    }
+
+    // While a turn is out only settle is let in.
+    fn no_turn_out(&self) -> Result<(), Refusal>
+        ensures { MatchResult result (λ _. is_some self.now.state.turn ≡ false) (λ e. (is_some self.now.state.turn ≡ true) × (e ≡ TurnOut)) }
+    {
+        if self.state.turn.is_some() {
+            return Err(Refusal::TurnOut);
+        }
+        Ok(())
     }
 
     // Whether releases of a class are refused in this mode.
@@ -48,16 +60,12 @@ impl<B: Bank> Engine<B> {
     pub fn release(&mut self, stream: u64) -> Result<(), Refusal>
         ensures { Released B.kind self.old.bank self.old.state stream result self.new.bank self.new.state }
     {
-        if self.is_shut() {
-            return Err(Refusal::Shut);
-        }
+        self.not_shut()?;
         let record = self.bank.record_of(stream).ok_or(Refusal::NoSuchStream)?;
         if stream > PLACES {
             return Err(Refusal::NoSuchStream);
         }
-        if self.state.turn.is_some() {
-            return Err(Refusal::TurnOut);
-        }
+        self.no_turn_out()?;
         let row = record.row();
         if self.shuns(row.class) {
             return Err(Refusal::BackgroundInOverrun);
@@ -76,20 +84,19 @@ impl<B: Bank> Engine<B> {
         Ok(())
     }
 
-    // Why no turn can be handed out, if none can. The slip keeps it, so it is no error to carry on.
-    fn pick_refusal(&self) -> Option<Refusal>
-        ensures { result ≡ pick_refusal self.now.state }
+    // Gives the next turn out, if one can be.
+    fn hand_out(&mut self) -> Result<(), Refusal>
+        ensures picked { MatchResult result (λ _. Picked self.old.state None self.new.state) (λ e. Picked self.old.state (Some e) self.new.state) }
+        ensures bank { self.new.bank ≡ self.old.bank }
     {
-        if self.is_shut() {
-            return Some(Refusal::Shut);
-        }
-        if self.state.turn.is_some() {
-            return Some(Refusal::TurnOut);
-        }
+        self.not_shut()?;
+        self.no_turn_out()?;
         if self.moment() >= LAST_MOMENT {
-            return Some(Refusal::LastMoment);
+            return Err(Refusal::LastMoment);
         }
-        None
+        let turn = next_turn(&self.state);
+        self.state.turn = Some(turn);
+        Ok(())
     }
 
     // Hands out a turn to the job with the least deadline, then the least stream number, or to nobody. One settles the slip.
@@ -97,12 +104,9 @@ impl<B: Bank> Engine<B> {
         ensures picked { Picked self.old.state result.void self.new.state }
         ensures bank { self.new.bank ≡ self.old.bank }
     {
-        let void = self.pick_refusal();
-        if void.is_none() {
-            let turn = next_turn(&self.state);
-            self.state.turn = Some(turn);
+        Slip {
+            void: self.hand_out().err(),
         }
-        Slip { void }
     }
 
     // Settles the turn that is out: done or not. The slip is spent; the engine itself knows whose turn it is.
@@ -123,12 +127,8 @@ impl<B: Bank> Engine<B> {
         ensures calmed { Calmed self.old.state result self.new.state }
         ensures bank { self.new.bank ≡ self.old.bank }
     {
-        if self.is_shut() {
-            return Err(Refusal::Shut);
-        }
-        if self.state.turn.is_some() {
-            return Err(Refusal::TurnOut);
-        }
+        self.not_shut()?;
+        self.no_turn_out()?;
         if self.state.mode == Phase::Normal {
             return Err(Refusal::AlreadyNormal);
         }

@@ -1,15 +1,11 @@
-use Rattle.std.proofs.Common.{◌≡◌, ℕ, ◌+◌, ◌-◌, ◌<◌, ◌≤◌, Bool, cond, List, ◌∷◌, length, get_or, take, drop, Some, sym, ap, ◌∙◌, subst, arith, ltb-false}
+use Rattle.std.proofs.Common.{◌≡◌, ℕ, ◌+◌, ◌<◌, ◌≤◌, Bool, cond, List, ◌∷◌, length, get_or, take, Some, sym, ap, ◌∙◌, subst, rules}
 use Rattle.std.proofs.lemmas.List.MinMax.{best_of_keeps, best_of_takes, IsFirstBest-from_best_of}
-use Rattle.std.proofs.lemmas.List.{get_or_default, drop_more, take_rest, take_all}
+use Rattle.std.proofs.lemmas.List.{get_or_default, take_all}
 use Rattle.std.proofs.lemmas.Bool.{cond_both}
 use Rattle.std.specs.Cmp.{IsStrictWeakOrder}
 use Rattle.std.specs.List.{best_of}
 use Rattle.least.specs.Firsts.{FirstLeast}
 use Rattle.least.proofs.least.Goals as goal
-
-first_and_rest : {X : Type 0} (items : List X) (first : X) → 0 < length items → first ≡ get_or items 0 first → first ∷ take (length items - 1) (drop 1 items) ≡ items
-first_and_rest items first some is =
-    ap (λ t. first ∷ t) (take_rest items 1) ∙ ap (λ x. x ∷ drop 1 items) is ∙ sym (drop_more items 0 first some)
 
 first_least_from_best_of : {X : Type 0} {below : X → X → Bool} (o : IsStrictWeakOrder below) (first best : X) (rest items : List X) (i : ℕ) → first ∷ rest ≡ items → length rest ≤ i → best ≡ best_of below first (take i rest) → FirstLeast below items (Some best)
 first_least_from_best_of {X} {below} o first best rest items i joined all is =
@@ -24,12 +20,12 @@ best_of_more below first rest i item best here is so_far =
 
 pub loop-item-preserved : goal.loop-item-preserved
 loop-item-preserved g c =
-    let items = c.args.items.now in
-    c.earlier-best.ensures ∙ best_of_more g.X.Ranked.below c.first-item.result (take (length items - 1) (drop 1 items)) c.loop-item.item-index c.item-item.result c.loop-item.best c.loop-item-test.true c.item-item.is c.loop-item.invariant
+    c.earlier-best.ensures ∙ best_of_more g.X.Ranked.below c.in_ok-first.first.now c.in_ok-first.rest.now c.loop-item.item-index c.item-item.result c.loop-item.best c.loop-item-test.true c.item-item.is c.loop-item.invariant
 
 pub returns : goal.returns
 returns g c =
     let items = c.args.items.now in
-    let first = c.first-item.result in
-    let joined = first_and_rest items first (omega (arith, ltb-false)) c.first-item.is in
-    first_least_from_best_of g.met.X.Ranked.ranks first c.loop-item.best (take (length items - 1) (drop 1 items)) items c.loop-item.item-index joined c.loop-item-test.false c.loop-item.invariant
+    let first = c.in_ok-first.first.now in
+    let rest = c.in_ok-first.rest.now in
+    let joined : first ∷ rest ≡ items = search rules in
+    first_least_from_best_of g.met.X.Ranked.ranks first c.loop-item.best rest items c.loop-item.item-index joined c.loop-item-test.false c.loop-item.invariant

@@ -1,11 +1,11 @@
-use Rattle.std.proofs.Common.{◌≡◌, ℕ, ◌+◌, ◌<◌, ◌≤◌, ◌&&◌, List, is_some, is_ok, Some, None, Option, sym, ap, ◌∙◌, ⊎_elim, arith, rules}
+use Rattle.std.proofs.Common.{◌≡◌, ℕ, false, ◌+◌, ◌<◌, ◌≤◌, ◌&&◌, List, is_some, is_ok, Some, None, Option, sym, ap, ◌∙◌, ⊎_elim, arith, rules}
 use borrow.Author.Tests.{clash}
 use Rattle.std.proofs.lemmas.List.Sums.{count_by-le-length}
 use Rattle.std.proofs.lemmas.Bool.{cases_lt}
 use Rattle.stream.specs.declared.Row.{Row}
 use Rattle.turns.proofs.Lasting.{none_is}
 use Rattle.turns.specs.Jobs.{background, job_of, put, released}
-use Rattle.turns.specs.Steps.{in_overrun, with_job}
+use Rattle.turns.specs.Steps.{in_overrun, is_shut, with_job}
 use Rattle.turns.specs.declared.Job.{Job}
 use Rattle.turns.specs.declared.State.{State}
 use Rattle.engine.proofs.Granting.{release_granted}
@@ -23,7 +23,8 @@ pub overflow_add-self : goal.overflow_add-self
 overflow_add-self g c =
     let e = c.args.self.now in
     let t = e.tallied in
-    let d = e.early.0 (sym c.is_shut.ensures ∙ c.if-is_shut.false) in
+    let not_shut : is_shut e.state.verdict ≡ false = search rules in
+    let d = e.early.0 not_shut in
     let w = count_by-le-length is_some e.state.jobs in
     let r = e.room in
     omega arith
@@ -36,8 +37,9 @@ invariant_of-self-2 g c =
     let found : g.B.Bank.kind.records e.bank c.args.stream ≡ Some r = search rules in
     let range = g.met.B.Bank.lawful.numbered e.bank c.args.stream r found in
     let place = c.if-stream-gt-PLACES.false in
-    let out : s.turn ≡ None = none_is s.turn (sym c.is_some.ensures ∙ c.if-is_some.false) in
-    let free : job_of s.jobs c.args.stream ≡ None = none_is (job_of s.jobs c.args.stream) (ap is_some (sym c.of.ensures.job) ∙ sym c.is_some-2.ensures ∙ c.if-is_some-2.false) in
+    let no_turn : is_some s.turn ≡ false = search rules in
+    let out : s.turn ≡ None = none_is s.turn no_turn in
+    let free : job_of s.jobs c.args.stream ≡ None = none_is (job_of s.jobs c.args.stream) (ap is_some (sym c.of.ensures.job) ∙ sym c.is_some.ensures ∙ c.if-is_some.false) in
     let kept = fields (with_job s c.args.stream (released r.row s.moment)) (accepted_with s c.put.new.self) (same_job s c.args.stream c.row-row.result r.row c.moment.result c.put.new.self c.row-row.ensures c.moment.ensures c.put.ensures) (sound_released s (e.room, e.early, e.placed, e.worked, e.near, e.tallied) c.args.stream r range.0 place out free) in
     record { room = kept.0; early = kept.1; placed = kept.2; worked = kept.3; near = kept.4; tallied = kept.5 }
 
@@ -50,9 +52,11 @@ returns g c =
     let r = c.in_ok-record.record in
     let found : k.records e.bank i ≡ Some r = search rules in
     let accepted = c.in_ok-accept.was in
+    let not_shut : is_shut s.verdict ≡ false = search rules in
+    let no_turn : is_some s.turn ≡ false = search rules in
     let opens : 0 < k.opening e.bank i 0 =
     ⊎_elim
     (λ (l : 0 < k.opening e.bank i 0). l)
     (λ (l : k.opening e.bank i 0 ≤ 0). let refused = (c.accept.ensures.shut r found (omega arith)).0 in absurd (clash (ap is_ok (sym refused ∙ accepted))))
     (cases_lt 0 (k.opening e.bank i 0)) in
-    (r, found, release_granted s i r (k.opening e.bank i 0) (sym c.is_shut.ensures ∙ c.if-is_shut.false) c.if-stream-gt-PLACES.false (sym c.is_some.ensures ∙ c.if-is_some.false) (ap (λ (w : Row). background w.class && in_overrun s.mode) (sym c.row-row.ensures) ∙ sym c.shuns.ensures ∙ c.if-shuns.false) (ap is_some (sym c.of.ensures.job) ∙ sym c.is_some-2.ensures ∙ c.if-is_some-2.false) opens, (c.accept.ensures.taken r found opens).1, same_job s i c.row-row.result r.row c.moment.result c.put.new.self c.row-row.ensures c.moment.ensures c.put.ensures)
+    (r, found, release_granted s i r (k.opening e.bank i 0) not_shut c.if-stream-gt-PLACES.false no_turn (ap (λ (w : Row). background w.class && in_overrun s.mode) (sym c.row-row.ensures) ∙ sym c.shuns.ensures ∙ c.if-shuns.false) (ap is_some (sym c.of.ensures.job) ∙ sym c.is_some.ensures ∙ c.if-is_some.false) opens, (c.accept.ensures.taken r found opens).1, same_job s i c.row-row.result r.row c.moment.result c.put.new.self c.row-row.ensures c.moment.ensures c.put.ensures)
