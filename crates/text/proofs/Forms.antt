@@ -88,9 +88,9 @@ same_head : (p : List ℕ) (c : ℕ) (x y : List ℕ) → get_or (p ++ c ∷ x) 
 same_head [] c x y = refl
 same_head (a ∷ p) c x y = refl
 
--- of a form whose words with this first byte are those of a part, the text leaves the part where it leaves the form
-pub leaves_by_first : (L M : List ℕ → Type 0) (s more : List ℕ) (n a : ℕ) → s ≡ a ∷ more → ((w : List ℕ) → L w → M w) → ((w : List ℕ) → M w → get_or w 0 0 ≡ a → L w) → Leaves L s n → Leaves M s n
-leaves_by_first L M s more n a begins to only l = record {
+-- of a form whose words that begin as the text does are those of a part, the text leaves the part where it leaves the form
+pub leaves_by_first : (L M : List ℕ → Type 0) (s : List ℕ) (n : ℕ) → ((w : List ℕ) → L w → M w) → ((w : List ℕ) → M w → get_or w 0 0 ≡ get_or s 0 0 → L w) → Leaves L s n → Leaves M s n
+leaves_by_first L M s n to only l = record {
   read = l.read;
   unread = l.unread;
   whole = l.whole;
@@ -98,14 +98,16 @@ leaves_by_first L M s more n a begins to only l = record {
   halts = record {
     due = (l.halts.due.0, l.halts.due.1, to _ l.halts.due.2);
     dead = λ c rest w e m.
-        let whole : a ∷ more ≡ l.read ++ c ∷ rest = sym begins ∙ l.whole ∙ ap (λ (x : List ℕ). l.read ++ x) e in
-        l.halts.dead c rest w e (only _ m (same_head l.read c w rest ∙ ap (λ (x : List ℕ). get_or x 0 0) (sym whole)));
+        let whole : l.read ++ c ∷ rest ≡ s = sym (l.whole ∙ ap (λ (x : List ℕ). l.read ++ x) e) in
+        l.halts.dead c rest w e (only _ m (same_head l.read c w rest ∙ ap (λ (x : List ℕ). get_or x 0 0) whole));
   };
 }
 
 -- the very first byte begins no word
-pub leaves_here : (L : List ℕ → Type 0) (s : List ℕ) (n b : ℕ) (z : List ℕ) → L (b ∷ z) → ((c : ℕ) (more w : List ℕ) → s ≡ c ∷ more → L (c ∷ w) → ⊥) → n ≡ length s → Leaves L s n
-leaves_here L s n b z word none count = record { read = []; unread = s; whole = refl; count = sym count; halts = record { due = (b, z, word); dead = none } }
+pub leaves_here : (L : List ℕ → Type 0) (s : List ℕ) (n b : ℕ) (z : List ℕ) → L (b ∷ z) → ((w : List ℕ) → L w → get_or w 0 0 ≡ get_or s 0 0 → ⊥) → n ≡ length s → Leaves L s n
+leaves_here L s n b z word none count =
+    let others : (c : ℕ) (more w : List ℕ) → s ≡ c ∷ more → L (c ∷ w) → ⊥ = λ c more w e m. none (c ∷ w) m (ap (λ (x : List ℕ). get_or x 0 0) (sym e)) in
+    record { read = []; unread = s; whole = refl; count = sym count; halts = record { due = (b, z, word); dead = others } }
 
 -- the byte at i of the bytes that are due does not come
 pub leaves_exactly : (bytes s t : List ℕ) (i n : ℕ) → i < length bytes → s ≡ take i bytes ++ t → ((more : List ℕ) → t ≡ get_or bytes i 0 ∷ more → ⊥) → n ≡ length t → Leaves (Exactly bytes) s n

@@ -1,6 +1,6 @@
 -- The form of a line: one bracket, and then one of the kinds, which begin apart.
 
-use Rattle.std.proofs.Common.{◌≡◌, ℕ, List, [], ◌∷◌, ◌++◌, length, get_or, codes, decimal, sym, refl, ap, ◌∙◌, append_assoc, arith, lit<}
+use Rattle.std.proofs.Common.{◌≡◌, ℕ, List, [], ◌++◌, ◌≢◌, length, get_or, codes, decimal, sym, refl, ap, ◌∙◌, append_assoc, lit<}
 use Rattle.stream.specs.declared.Class.TheVariants.{Critical}
 use Rattle.stream.specs.declared.Row.{Row}
 use Rattle.text.specs.declared.line.Line.TheVariants.{Sporadic, Raster, Go}
@@ -8,7 +8,7 @@ use Rattle.text.specs.Lines.{row_bytes, sporadic_bytes, phased_bytes, raster_byt
 use Rattle.text.specs.Reading.{closed}
 use Rattle.text.specs.Words.{Form, Exactly, Small, Leaves, numbered}
 use Rattle.text.proofs.Forms.{Then, leaves_same, leaves_first, leaves_second, leaves_by_first, leaves_here}
-use Rattle.text.proofs.Grammar.{RowForm, begins, zero_small, at_prefix, after_prefix}
+use Rattle.text.proofs.Grammar.{RowForm, begins_apart, zero_small, at_prefix, after_prefix}
 use Rattle.text.proofs.Numerals.{Field}
 use Rattle.text.proofs.Unique.{apart_row}
 
@@ -79,34 +79,35 @@ after_open : (s t : List ℕ) (k : ℕ) → s ≡ codes "(" ++ t → Leaves Item
 after_open s t k e l = after_prefix (codes "(") item_bytes Valid s t k e l
 
 -- the first byte tells the kind
-only_sporadic : (w : List ℕ) → ItemForm w → get_or w 0 0 ≡ 83 → SporadicForm w
-only_sporadic w (Sporadic r, s, e) h = (r, s, e)
-only_sporadic w (Raster r p, s, e) h = let z : ◌≡◌ {A = ℕ} 82 83 = begins w 82 83 _ e h in let b : ⊥ = omega arith in absurd b
-only_sporadic w (Go m, s, e) h = let z : ◌≡◌ {A = ℕ} 103 83 = begins w 103 83 _ e h in let b : ⊥ = omega arith in absurd b
+module _ (s t : List ℕ) (k : ℕ) (e : s ≡ codes "(" ++ t) where
+  pub line_sporadic : get_or t 0 0 ≡ 83 → Leaves SporadicForm t k → Leaves LineForm s k
+  line_sporadic is l = after_open s t k e (leaves_by_first SporadicForm ItemForm t k (λ w r. (Sporadic r.0, r.1, r.2)) only l)
+    where
+      only : (w : List ℕ) → ItemForm w → get_or w 0 0 ≡ get_or t 0 0 → SporadicForm w
+      only w (Sporadic r, v, f) h = (r, v, f)
+      only w (Raster r p, v, f) h = begins_apart f (h ∙ is) refl
+      only w (Go m, v, f) h = begins_apart f (h ∙ is) refl
 
-only_raster : (w : List ℕ) → ItemForm w → get_or w 0 0 ≡ 82 → RasterForm w
-only_raster w (Sporadic r, s, e) h = let z : ◌≡◌ {A = ℕ} 83 82 = begins w 83 82 _ e h in let b : ⊥ = omega arith in absurd b
-only_raster w (Raster r p, s, e) h = ((r, p), s, e)
-only_raster w (Go m, s, e) h = let z : ◌≡◌ {A = ℕ} 103 82 = begins w 103 82 _ e h in let b : ⊥ = omega arith in absurd b
+  pub line_raster : get_or t 0 0 ≡ 82 → Leaves RasterForm t k → Leaves LineForm s k
+  line_raster is l = after_open s t k e (leaves_by_first RasterForm ItemForm t k (λ w r. (Raster r.0.0 r.0.1, r.1, r.2)) only l)
+    where
+      only : (w : List ℕ) → ItemForm w → get_or w 0 0 ≡ get_or t 0 0 → RasterForm w
+      only w (Sporadic r, v, f) h = begins_apart f (h ∙ is) refl
+      only w (Raster r p, v, f) h = ((r, p), v, f)
+      only w (Go m, v, f) h = begins_apart f (h ∙ is) refl
 
-only_moment : (w : List ℕ) → ItemForm w → get_or w 0 0 ≡ 103 → MomentForm w
-only_moment w (Sporadic r, s, e) h = let z : ◌≡◌ {A = ℕ} 83 103 = begins w 83 103 _ e h in let b : ⊥ = omega arith in absurd b
-only_moment w (Raster r p, s, e) h = let z : ◌≡◌ {A = ℕ} 82 103 = begins w 82 103 _ e h in let b : ⊥ = omega arith in absurd b
-only_moment w (Go m, s, e) h = (m, s, e)
+  pub line_moment : get_or t 0 0 ≡ 103 → Leaves MomentForm t k → Leaves LineForm s k
+  line_moment is l = after_open s t k e (leaves_by_first MomentForm ItemForm t k (λ w r. (Go r.0, r.1, r.2)) only l)
+    where
+      only : (w : List ℕ) → ItemForm w → get_or w 0 0 ≡ get_or t 0 0 → MomentForm w
+      only w (Sporadic r, v, f) h = begins_apart f (h ∙ is) refl
+      only w (Raster r p, v, f) h = begins_apart f (h ∙ is) refl
+      only w (Go m, v, f) h = (m, v, f)
 
-pub line_sporadic : (s t more : List ℕ) (k : ℕ) → s ≡ codes "(" ++ t → t ≡ 83 ∷ more → Leaves SporadicForm t k → Leaves LineForm s k
-line_sporadic s t more k e h l = after_open s t k e (leaves_by_first SporadicForm ItemForm t more k 83 h (λ w r. (Sporadic r.0, r.1, r.2)) only_sporadic l)
-
-pub line_raster : (s t more : List ℕ) (k : ℕ) → s ≡ codes "(" ++ t → t ≡ 82 ∷ more → Leaves RasterForm t k → Leaves LineForm s k
-line_raster s t more k e h l = after_open s t k e (leaves_by_first RasterForm ItemForm t more k 82 h (λ w r. (Raster r.0.0 r.0.1, r.1, r.2)) only_raster l)
-
-pub line_moment : (s t more : List ℕ) (k : ℕ) → s ≡ codes "(" ++ t → t ≡ 103 ∷ more → Leaves MomentForm t k → Leaves LineForm s k
-line_moment s t more k e h l = after_open s t k e (leaves_by_first MomentForm ItemForm t more k 103 h (λ w r. (Go r.0, r.1, r.2)) only_moment l)
-
-item_comes : (t : List ℕ) → ((more : List ℕ) → t ≡ 83 ∷ more → ⊥) → ((more : List ℕ) → t ≡ 82 ∷ more → ⊥) → ((more : List ℕ) → t ≡ 103 ∷ more → ⊥) → (c : ℕ) (more w : List ℕ) → t ≡ c ∷ more → ItemForm (c ∷ w) → ⊥
-item_comes t h r l c more w e (Sporadic q, s, p) = h more (cc)
-item_comes t h r l c more w e (Raster q o, s, p) = r more (cc)
-item_comes t h r l c more w e (Go m, s, p) = l more (cc)
-
-pub line_kind : (s t : List ℕ) (k : ℕ) → s ≡ codes "(" ++ t → ((more : List ℕ) → t ≡ 83 ∷ more → ⊥) → ((more : List ℕ) → t ≡ 82 ∷ more → ⊥) → ((more : List ℕ) → t ≡ 103 ∷ more → ⊥) → k ≡ length t → Leaves LineForm s k
-line_kind s t k e h r l count = after_open s t k e (leaves_here ItemForm t k 103 _ (Go 0, zero_small, refl) (item_comes t h r l) count)
+  pub line_kind : get_or t 0 0 ≢ 83 → get_or t 0 0 ≢ 82 → get_or t 0 0 ≢ 103 → k ≡ length t → Leaves LineForm s k
+  line_kind sporadic raster moment count = after_open s t k e (leaves_here ItemForm t k 103 _ (Go 0, zero_small, refl) none count)
+    where
+      none : (w : List ℕ) → ItemForm w → get_or w 0 0 ≡ get_or t 0 0 → ⊥
+      none w (Sporadic r, v, f) h = sporadic (sym h ∙ ap (λ (x : List ℕ). get_or x 0 0) f)
+      none w (Raster r p, v, f) h = raster (sym h ∙ ap (λ (x : List ℕ). get_or x 0 0) f)
+      none w (Go m, v, f) h = moment (sym h ∙ ap (λ (x : List ℕ). get_or x 0 0) f)

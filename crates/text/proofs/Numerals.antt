@@ -1,10 +1,10 @@
 -- Digits at the front of a text, the number that they write, and where a text leaves the form of a number.
 
-use Rattle.std.proofs.Common.{◌≡◌, ℕ, zero, suc, ◌+◌, ◌-◌, ◌*◌, ◌^◌, ◌<◌, ◌≤◌, ◌⊎◌, List, [], ◌∷◌, ◌++◌, length, get_or, take, drop, decimal, sym, refl, ap, ◌∙◌, subst, inl, inr, ⊎_elim, append_assoc, arith, lit<, length-append}
+use Rattle.std.proofs.Common.{◌≡◌, ℕ, zero, suc, ◌+◌, ◌-◌, ◌*◌, ◌^◌, ◌<◌, ◌≤◌, ◌⊎◌, List, [], ◌∷◌, ◌++◌, length, get_or, take, drop, decimal, sym, refl, ap, ◌∙◌, subst, inl, inr, ⊎_elim, append_assoc, add-zero, arith, lit<, length-append}
 use native.Mathlib.Nat.{pow-le-pow_right}
 use Rattle.std.proofs.lemmas.Fmt.{digits_decimal, decimal-digits_value, decimal_digit, decimal_nonempty, first_decimal, length-decimal-le, decimal_injective}
 use Rattle.std.proofs.lemmas.Int.Digits.{digits_value-lt, digits_value_more}
-use Rattle.std.proofs.lemmas.List.{length-take-le, get_or-take, take-take, take-append-drop}
+use Rattle.std.proofs.lemmas.List.{length-take-le, get_or-take, get_or-drop, take-take, take-append-drop}
 use Rattle.std.proofs.lemmas.Str.Parse.{IsNumeralModel, numerals_by_value, tells_digits, digit_at, digit_from_value}
 use Rattle.std.proofs.lemmas.Str.{digit_value_digit}
 use Rattle.std.specs.Str.Parse.{AllDigits, digits_value}
@@ -67,12 +67,6 @@ decimal_front text len n some =
     (λ e. let f : len ≤ 1 = n.lone (sym (get_or-take len text 0 0 some) ∙ e) in omega (arith, length_front text len n))
     (omega (arith, value_small text len n))
 
-head_of_drop : (len : ℕ) (text : List ℕ) (c : ℕ) (more : List ℕ) → drop len text ≡ c ∷ more → (len < length text) × (get_or text len 0 ≡ c)
-head_of_drop zero [] c more e = let z : ◌≡◌ {A = ℕ} 0 1 = omega (arith, ap length e) in let b : ⊥ = omega arith in absurd b
-head_of_drop zero (d ∷ text) c more e = (omega arith, cc)
-head_of_drop (suc len) [] c more e = let b : ⊥ = omega (arith, ap length e) in absurd b
-head_of_drop (suc len) (d ∷ text) c more e = let r = head_of_drop len text c more e in (omega (arith, r.0), r.1)
-
 pub counted : (text : List ℕ) (len n : ℕ) (rest : List ℕ) → Numeral text len → (len ≡ 0 → ⊥) → n ≡ digits_value 10 (take len text) → rest ≡ drop len text → Counted text n rest
 counted text len n rest num some e r =
     let pos : 0 < len = omega arith in
@@ -80,16 +74,13 @@ counted text len n rest num some e r =
     record {
       whole = sym (take-append-drop len text) ∙ ap (λ (x : List ℕ). x ++ drop len text) (sym written) ∙ ap (λ (x : List ℕ). decimal n ++ x) (sym r);
       small = subst Small (sym e) (value_small text len num);
-      full = λ c more h digit.
-          let at = head_of_drop len text c more (sym r ∙ h) in
+      full = λ digit.
           ⊎_elim (λ k. inr (ap length written ∙ length_front text len num ∙ k)) (λ k. inl (e ∙ value_zero text len (omega (arith, k.0)) k.1))
-          (num.full at.0 (subst (λ (x : ℕ). IsInRange 48 57 x) (sym at.1) digit));
+          (num.full (subst (λ (x : ℕ). IsInRange 48 57 x) (ap (λ (l : List ℕ). get_or l 0 0) r ∙ get_or-drop len text 0 0 ∙ ap (λ (i : ℕ). get_or text i 0) (add-zero len)) digit));
     }
 
-pub no_digit : (text : List ℕ) → Numeral text 0 → (c : ℕ) (more : List ℕ) → text ≡ c ∷ more → IsInRange 48 57 c → ⊥
-no_digit text num c more e digit =
-    let at = head_of_drop 0 text c more e in
-    ⊎_elim (λ k. let z : ⊥ = omega (arith, k) in z) (λ k. let z : ⊥ = omega (arith, k.0) in z) (num.full at.0 (subst (λ (x : ℕ). IsInRange 48 57 x) (sym at.1) digit))
+pub no_digit : (text : List ℕ) → Numeral text 0 → IsInRange 48 57 (get_or text 0 0) → ⊥
+no_digit text num digit = ⊎_elim (λ k. let z : ⊥ = omega (arith, k) in z) (λ k. let z : ⊥ = omega (arith, k.0) in z) (num.full digit)
 
 -- two runs of digits that begin one text: they end together, or one goes on where the other ends
 split : (ds es : List ℕ) (k h : ℕ) (x y : List ℕ) → AllDigits 10 ds → AllDigits 10 es → k < 48 → ds ++ k ∷ x ≡ es ++ h ∷ y → ((ds ≡ es) × (k ∷ x ≡ h ∷ y)) ⊎ ((q : List ℕ) × (ds ≡ es ++ h ∷ q))
@@ -178,23 +169,23 @@ leaves_closing close s t n left low num l =
             let next : t ≡ g.0 ∷ g.2 = l.whole ∙ ap (λ (x : List ℕ). r ++ x) e ∙ g.4 in
             ⊎_elim (λ a. l.halts.dead c more w e (g.3 ∙ sym a.1 ∙ sym k.2))
             (λ b. let digit : IsInRange 48 57 g.0 = digit_after (decimal n) g.0 b.0 (subst (λ (x : List ℕ). AllDigits 10 x) b.1 (digits_of m.0 m.1)) in
-            not_longer m.0 n g.0 b.0 m.1 (num.full g.0 g.2 next digit) b.1)
+            not_longer m.0 n g.0 b.0 m.1 (num.full (subst (λ (x : ℕ). IsInRange 48 57 x) (ap (λ (x : List ℕ). get_or x 0 0) (sym next)) digit)) b.1)
             (split (decimal m.0) (decimal n) k.0 g.0 k.1 g.1 (digits_of m.0 m.1) (digits_of n num.small) k.3 whole);
       };
     }
 
-first_digit : (n : ℕ) → Small n → (c : ℕ) (w x : List ℕ) → c ∷ w ≡ decimal n ++ x → IsInRange 48 57 c
-first_digit n s c w x e = by (decimal n) (digits_of n s) (decimal_nonempty n (fits n s)) e
+first_digit : (n : ℕ) → Small n → (w x : List ℕ) → w ≡ decimal n ++ x → IsInRange 48 57 (get_or w 0 0)
+first_digit n s w x e = subst (λ (v : List ℕ). IsInRange 48 57 (get_or v 0 0)) (sym e) (by (decimal n) (digits_of n s) (decimal_nonempty n (fits n s)))
   where
-    by : (ds : List ℕ) → AllDigits 10 ds → 0 < length ds → c ∷ w ≡ ds ++ x → IsInRange 48 57 c
-    by [] p some h = let z : ⊥ = omega arith in absurd z
-    by (d ∷ ds) p some h = let same : d ≡ c = cc in subst (λ (v : ℕ). IsInRange 48 57 v) same (digit_from_value d p.0)
+    by : (ds : List ℕ) → AllDigits 10 ds → 0 < length ds → IsInRange 48 57 (get_or (ds ++ x) 0 0)
+    by [] p some = let z : ⊥ = omega arith in absurd z
+    by (d ∷ ds) p some = digit_from_value d p.0
 
 -- no digit where a number is due
-pub leaves_number : (close s : List ℕ) (left : ℕ) → ((c : ℕ) (more : List ℕ) → s ≡ c ∷ more → IsInRange 48 57 c → ⊥) → left ≡ length s → Leaves (Field close) s left
+pub leaves_number : (close s : List ℕ) (left : ℕ) → (IsInRange 48 57 (get_or s 0 0) → ⊥) → left ≡ length s → Leaves (Field close) s left
 leaves_number close s left none count =
     leaves_here (Field close) s left 48 close (0, lit< tt, ap (λ (w : List ℕ). w ++ close) (sym (decimal_digit 0 (lit< tt))))
-    (λ c more w e m. none c more e (first_digit m.0 m.1 c w close m.2)) count
+    (λ w m h. none (subst (λ (x : ℕ). IsInRange 48 57 x) h (first_digit m.0 m.1 w close m.2))) count
 
 pub closes : (close s t z : List ℕ) (n : ℕ) → Counted s n t → t ≡ close ++ z → Small n × (s ≡ closed close n ++ z)
 closes close s t z n num e = (num.small, num.whole ∙ ap (λ (w : List ℕ). decimal n ++ w) e ∙ sym (append_assoc (decimal n) close z))

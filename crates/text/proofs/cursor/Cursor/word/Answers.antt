@@ -1,4 +1,4 @@
-use Rattle.std.proofs.Common.{◌≡◌, ℕ, ◌+◌, ◌<◌, List, [], ◌∷◌, ◌++◌, length, get_or, take, sym, refl, ap, ◌∙◌}
+use Rattle.std.proofs.Common.{◌≡◌, ℕ, ◌+◌, ◌<◌, List, [], ◌∷◌, ◌++◌, length, get_or, take, sym, ap, ◌∙◌}
 use Rattle.std.proofs.lemmas.List.{take_more, take_all, append_assoc}
 use Rattle.std.proofs.lemmas.Result.{err_from_is_err_and}
 use Rattle.text.specs.Reading.{ahead}
@@ -13,7 +13,7 @@ one_more bytes s t u i lt e h =
 pub returns-in_err-byte : goal.returns-in_err-byte
 returns-in_err-byte c =
     let p = err_from_is_err_and c.from_residual.result c.from_residual.ensures.1 in
-    rw (p.1, p.2) (record { left = _; leaves = leaves_exactly _ _ _ c.loop-b.b-index _ c.loop-b-test.true c.loop-b.invariant c.in_err-byte.ensures.0 refl; place = c.in_err-byte.ensures.1 })
+    rw (p.1, p.2) (leaves_exactly _ _ _ c.loop-b.b-index _ c.loop-b-test.true c.loop-b.invariant c.in_err-byte.ensures.0 c.in_err-byte.ensures.1)
 
 pub loop-b-preserved : goal.loop-b-preserved
 loop-b-preserved c = one_more _ _ _ _ c.loop-b.b-index c.loop-b-test.true c.loop-b.invariant c.in_ok-byte.ensures
