@@ -1,6 +1,6 @@
 -- Where a text leaves a form, from where it leaves a part of the form.
 
-use Rattle.std.proofs.Common.{◌≡◌, ℕ, ◌+◌, ◌<◌, ◌⊎◌, List, [], ◌∷◌, ◌++◌, length, get_or, take, drop, sym, refl, ap, ◌∙◌, subst, inl, inr, ⊎_elim, append_assoc, append-nil, arith, length-append}
+use Rattle.std.proofs.Common.{◌≡◌, ℕ, ◌+◌, ◌<◌, ◌⊎◌, ◌≢◌, List, [], ◌∷◌, ◌++◌, length, get_or, take, drop, sym, refl, ap, ◌∙◌, subst, inl, inr, ⊎_elim, append_assoc, append-nil, arith, length-append}
 use Rattle.std.proofs.lemmas.List.{append_cancel_left, take-append-drop, drop_more}
 use Rattle.text.specs.Words.{Form, Exactly, Leaves}
 
@@ -110,9 +110,9 @@ leaves_here L s n b z word none count =
     record { read = []; unread = s; whole = refl; count = sym count; halts = record { due = (b, z, word); dead = others } }
 
 -- the byte at i of the bytes that are due does not come
-pub leaves_exactly : (bytes s t : List ℕ) (i n : ℕ) → i < length bytes → s ≡ take i bytes ++ t → ((more : List ℕ) → t ≡ get_or bytes i 0 ∷ more → ⊥) → n ≡ length t → Leaves (Exactly bytes) s n
+pub leaves_exactly : (bytes s t : List ℕ) (i n : ℕ) → i < length bytes → s ≡ take i bytes ++ t → (length t ≡ 0) ⊎ (get_or t 0 0 ≢ get_or bytes i 0) → n ≡ length t → Leaves (Exactly bytes) s n
 leaves_exactly bytes s t i n lt e missing count =
-    let split : take i bytes ++ (get_or bytes i 0 ∷ drop (i + 1) bytes) ≡ bytes = ap (λ (x : List ℕ). take i bytes ++ x) (sym (drop_more bytes i 0 lt)) ∙ take-append-drop i bytes in
+    let split : take i bytes ++ (get_or bytes i 0 ∷ drop (i + 1) bytes) ≡ bytes = rw (← drop_more bytes i 0 lt) (take-append-drop i bytes) in
     record {
       read = take i bytes;
       unread = t;
@@ -123,7 +123,7 @@ leaves_exactly bytes s t i n lt e missing count =
         dead = λ c more w h m.
             let tails : c ∷ w ≡ get_or bytes i 0 ∷ drop (i + 1) bytes = append_cancel_left (take i bytes) _ _ (m ∙ sym split) in
             let same : c ≡ get_or bytes i 0 = cc in
-            missing more (h ∙ ap (λ (x : ℕ). x ∷ more) same);
+            ⊎_elim (λ none. omega (arith, none, ap length h)) (λ other. other (ap (λ (x : List ℕ). get_or x 0 0) h ∙ same)) missing;
       };
     }
 

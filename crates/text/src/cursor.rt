@@ -1,7 +1,8 @@
 // Reading the parts of a line, byte by byte.
 
-ghost use Rattle.std.specs.Prelude.{◌≡◌, ℕ, ◌<◌, List, [], ◌∷◌, ◌++◌, length, take, MatchResult, ◌≢◌, slice_index_or, if◌then◌else◌};
-ghost use Rattle.std.specs.Str.Parse.{digits_value};
+ghost use Rattle.std.specs.Prelude.{◌≡◌, ℕ, ◌<◌, ◌≤◌, List, [], ◌∷◌, ◌++◌, length, MatchResult, ◌≢◌, slice_index_or, if◌then◌else◌};
+ghost use Rattle.std.specs.Str.Parse.{AllDigits, digits_value};
+ghost use Rattle.std.specs.Float.Numeral.{digits_len};
 ghost use Rattle.std.specs.Int.{IsInRange};
 ghost use Rattle.text.specs.Reading.{ahead, closed, Reads, Strays, Numeral, Counted};
 ghost use Rattle.text.specs.Words.{Exactly, Small, numbered};
@@ -31,30 +32,31 @@ fn head(text: &[u8]) -> char
     char::from(text.first().copied().unwrap_or(0))
 }
 
+// How many digits stand at the front of the text.
+fn digits_len(text: &[u8]) -> usize
+    ensures { result ≡ digits_len text.now }
+{
+    text.iter().take_while(|b| b.is_ascii_digit()).count()
+}
+
 // How many digits at the front of the text are one number: 0 stands alone.
 fn numeral_len(text: &[u8]) -> usize
     ensures { Numeral text.now result }
 {
-    let most = match text {
-        [b'0', ..] => 1,
-        _ => MOST_DIGITS,
-    };
-    for i in 0..most {
-        if i >= text.len() || !text[i].is_ascii_digit() {
-            return i;
-        }
-    }
-    most
+    let most = if head(text) == '0' { 1 } else { MOST_DIGITS };
+    digits_len(text).min(most)
 }
 
-// The number that the first `len` digits of the text are.
-fn numeral_value(text: &[u8], len: usize) -> u64
-    requires { Numeral text.now len }
-    ensures { result ≡ digits_value 10 (take len text.now) }
+// The number that digits write.
+#[tactic(auto, using(crate::proofs::Numerals::value_step))]
+fn digits_value(digits: &[u8]) -> u64
+    requires digits { AllDigits 10 digits.now }
+    requires short { length digits.now ≤ 13 }
+    ensures { result ≡ digits_value 10 digits.now }
 {
     let mut value = 0;
-    for i in 0..len {
-        value = value * 10 + u64::from(text[i] - b'0');
+    for digit in digits {
+        value = value * 10 + u64::from(digit - b'0');
     }
     value
 }
@@ -69,23 +71,15 @@ impl<'a> Cursor<'a> {
         }
     }
 
-    fn byte(&mut self, byte: u8) -> Result<(), Misfit>
-        ensures { MatchResult result (λ _. ahead self.old ≡ byte ∷ ahead self.new) (λ e. ((more : List ℕ) → ahead self.old ≢ byte ∷ more) × (e.left ≡ length (ahead self.old))) }
-    {
-        match self.rest {
-            [first, rest @ ..] if *first == byte => {
-                self.rest = rest;
-                Ok(())
-            }
-            _ => Err(self.misfit()),
-        }
-    }
-
+    // Byte by byte, since a misfit stands at the first that differs.
     fn word(&mut self, word: &[u8]) -> Result<(), Misfit>
         ensures { MatchResult result (λ _. ahead self.old ≡ word.now ++ ahead self.new) (λ e. Strays (Exactly word.now) (ahead self.old) e) }
     {
-        for b in word {
-            self.byte(*b)?;
+        for due in word {
+            match self.rest {
+                [next, rest @ ..] if next == due => self.rest = rest,
+                _ => return Err(self.misfit()),
+            }
         }
         Ok(())
     }
@@ -108,14 +102,12 @@ impl<'a> Cursor<'a> {
     fn digits(&mut self) -> Result<u64, Misfit>
         ensures { MatchResult result (λ n. Counted (ahead self.old) n (ahead self.new)) (λ e. ¬ (IsInRange 48 57 (slice_index_or (ahead self.old) 0 0)) × (e.left ≡ length (ahead self.old))) }
     {
-        let text = self.rest;
-        let len = numeral_len(text);
-        if len == 0 {
+        let (digits, rest) = self.rest.split_at(numeral_len(self.rest));
+        if digits.is_empty() {
             return Err(self.misfit());
         }
-        let value = numeral_value(text, len);
-        self.rest = &text[len..];
-        Ok(value)
+        self.rest = rest;
+        Ok(digits_value(digits))
     }
 
     // A number and the bytes that close it, the first of which is no digit.

@@ -1,6 +1,11 @@
-use Rattle.std.proofs.Common.{rules}
-use Rattle.std.proofs.lemmas.Int.Digits.{digits_more}
+use Rattle.std.proofs.Common.{inl, inr, rules}
+use Rattle.text.proofs.Numerals.{numeral}
+use Rattle.text.proofs.cursor.numeral_len.Goals.{then-head-eq48, else-head-eq48}
 use Rattle.text.proofs.cursor.numeral_len.Goals as goal
 
-pub loop-i-preserved : goal.loop-i-preserved
-loop-i-preserved c = search (rules, digits_more)
+pub returns : goal.returns
+returns c =
+    elim c.if-head-eq48.branch [
+      | then-head-eq48 w ↦ numeral c.args.text.now c.if-head-eq48.most c.min.result (search rules) (inl (w.most-is, search rules))
+      | else-head-eq48 w ↦ numeral c.args.text.now c.if-head-eq48.most c.min.result (search rules) (inr (w.most-is, search rules))
+    ]
