@@ -69,6 +69,9 @@ module _ (s t : List ℕ) (k : ℕ) (e : s ≡ codes "(" ++ t) where
       none w (Turn d, v, f) h = turn (sym h ∙ ap (λ (x : List ℕ). get_or x 0 0) f)
       none w (Calm, v, f) h = calm (sym h ∙ ap (λ (x : List ℕ). get_or x 0 0) f)
 
+-- where each part of a call goes out of shape
+pub ruleset call_ends = (at_call, call_release, call_turn, call_calm, call_kind)
+
 -- ---- at most one call
 
 same_report : (c d : Bool) (x y : List ℕ) → report_bytes c ++ x ≡ report_bytes d ++ y → c ≡ d

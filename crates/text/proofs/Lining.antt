@@ -4,7 +4,7 @@ use Rattle.std.proofs.Common.{◌≡◌, ℕ, List, [], ◌++◌, ◌≢◌, len
 use Rattle.stream.specs.declared.Class.TheVariants.{Critical}
 use Rattle.stream.specs.declared.Row.{Row}
 use Rattle.text.specs.declared.line.Line.TheVariants.{Sporadic, Raster, Go}
-use Rattle.text.specs.Lines.{row_bytes, sporadic_bytes, phased_bytes, raster_bytes, moment_bytes, item_bytes, SmallRow, SmallPhased, Valid, LineForm}
+use Rattle.text.specs.Lines.{row_bytes, sporadic_bytes, phased_bytes, raster_bytes, item_bytes, SmallRow, SmallPhased, Valid, LineForm}
 use Rattle.text.specs.Reading.{closed}
 use Rattle.text.specs.Words.{Form, Exactly, Small, Leaves, numbered}
 use Rattle.text.proofs.Forms.{Then, leaves_same, leaves_first, leaves_second, leaves_by_first, leaves_here}
@@ -22,7 +22,7 @@ abbrev RasterForm : List ℕ → Type 0
 RasterForm = Form raster_bytes SmallPhased
 
 abbrev MomentForm : List ℕ → Type 0
-MomentForm = Form moment_bytes Small
+MomentForm = Form (numbered (codes "go ")) Small
 
 -- every form has a word
 some_row : Row
@@ -111,3 +111,6 @@ module _ (s t : List ℕ) (k : ℕ) (e : s ≡ codes "(" ++ t) where
       none w (Sporadic r, v, f) h = sporadic (sym h ∙ ap (λ (x : List ℕ). get_or x 0 0) f)
       none w (Raster r p, v, f) h = raster (sym h ∙ ap (λ (x : List ℕ). get_or x 0 0) f)
       none w (Go m, v, f) h = moment (sym h ∙ ap (λ (x : List ℕ). get_or x 0 0) f)
+
+-- where each part of a line goes out of shape
+pub ruleset line_ends = (at_line, line_sporadic, line_raster, line_moment, line_kind)

@@ -111,6 +111,7 @@ impl<'a> Cursor<'a> {
     }
 
     // A number and the bytes that close it, the first of which is no digit.
+    #[tactic(auto, using(crate::proofs::Numerals::leaves_closing, crate::proofs::Numerals::leaves_number))]
     fn number(&mut self, close: &[u8]) -> Result<u64, Misfit>
         requires { slice_index_or close.now 0 48 < 48 }
         ensures { Reads (closed close.now) Small (ahead self.old) result (ahead self.new) }
@@ -121,6 +122,7 @@ impl<'a> Cursor<'a> {
     }
 
     // A word and a number, to the end of their line.
+    #[tactic(auto, using(crate::proofs::Lining::at_numbered))]
     fn numbered(&mut self, word: &[u8]) -> Result<u64, Misfit>
         ensures { Reads (numbered word.now) Small (ahead self.old) result (ahead self.new) }
     {

@@ -17,6 +17,7 @@ impl<'a> Cursor<'a> {
     }
 
     // A turn and its report, after the first bracket of its line.
+    #[tactic(auto, using(crate::proofs::Calling::at_turn))]
     fn turn(&mut self) -> Result<bool, Misfit>
         ensures { Reads turn_bytes (λ _. Unit {0}) (ahead self.old) result (ahead self.new) }
     {
@@ -24,6 +25,7 @@ impl<'a> Cursor<'a> {
         self.report()
     }
 
+    #[tactic(auto, using(crate::proofs::Calling::call_ends))]
     fn call(&mut self) -> Result<Call, Misfit>
         ensures { Reads call_bytes ValidCall (ahead self.old) result (ahead self.new) }
     {

@@ -11,6 +11,7 @@ use crate::line::Line;
 use stream::{Class, Row};
 
 impl<'a> Cursor<'a> {
+    #[tactic(auto, using(crate::proofs::Grammar::leaves_class))]
     fn class(&mut self) -> Result<Class, Misfit>
         ensures { Reads class_letter (λ _. Unit {0}) (ahead self.old) result (ahead self.new) }
     {
@@ -44,6 +45,7 @@ impl<'a> Cursor<'a> {
     }
 
     // A sporadic stream, after the first bracket of its line.
+    #[tactic(auto, using(crate::proofs::Lining::at_sporadic))]
     fn sporadic(&mut self) -> Result<Row, Misfit>
         ensures { Reads sporadic_bytes SmallRow (ahead self.old) result (ahead self.new) }
     {
@@ -61,6 +63,7 @@ impl<'a> Cursor<'a> {
         Ok((row, phase))
     }
 
+    #[tactic(auto, using(crate::proofs::Lining::line_ends))]
     fn line(&mut self) -> Result<Line, Misfit>
         ensures { Reads render Valid (ahead self.old) result (ahead self.new) }
     {
