@@ -1,19 +1,16 @@
 -- The form of a call: one bracket, and then one of the kinds, which begin apart. A text begins with at most one call.
 
-use Rattle.std.proofs.Common.{◌≡◌, ℕ, Bool, true, false, List, ◌++◌, ◌≢◌, length, get_or, codes, sym, refl, ap, ◌∙◌, arith}
+use Rattle.std.proofs.Common.{◌≡◌, ℕ, Bool, true, false, List, ◌++◌, ◌≢◌, length, get_or, codes, sym, refl, ap, ◌∙◌}
 use Rattle.text.specs.declared.call.Call.{Call}
 use Rattle.text.specs.declared.call.Call.TheVariants.{Release, Turn, Calm}
 use Rattle.text.specs.Calls.{report_bytes, turn_bytes, order_bytes, call_bytes, ValidCall, CallForm}
 use Rattle.text.specs.Reading.{closed}
 use Rattle.text.specs.Words.{Form, Exactly, Small, Leaves, numbered}
 use Rattle.text.proofs.Forms.{leaves_by_first, leaves_here}
-use Rattle.text.proofs.Grammar.{begins_apart, at_prefix, after_prefix}
+use Rattle.text.proofs.Grammar.{begins_apart, differ, at_prefix, after_prefix}
 use Rattle.text.proofs.Unique.{same_moment}
 
 -- ---- the report
-
-abbrev ReportForm : List ℕ → Type 0
-ReportForm = Form report_bytes (λ _. Unit {0})
 
 abbrev TurnForm : List ℕ → Type 0
 TurnForm = Form turn_bytes (λ _. Unit {0})
@@ -76,8 +73,8 @@ pub ruleset call_ends = (at_call, call_release, call_turn, call_calm, call_kind)
 
 same_report : (c d : Bool) (x y : List ℕ) → report_bytes c ++ x ≡ report_bytes d ++ y → c ≡ d
 same_report true true x y e = refl
-same_report true false x y e = let z : ◌≡◌ {A = ℕ} 121 110 = cc in let b : ⊥ = omega arith in absurd b
-same_report false true x y e = let z : ◌≡◌ {A = ℕ} 110 121 = cc in let b : ⊥ = omega arith in absurd b
+same_report true false x y e = differ 0 e refl
+same_report false true x y e = differ 0 e refl
 same_report false false x y e = refl
 
 pub same_call : (c d : Call) (x y : List ℕ) → ValidCall c → ValidCall d → call_bytes c ++ x ≡ call_bytes d ++ y → c ≡ d
@@ -88,9 +85,9 @@ same_call (Turn c) (Turn d) x y s t e =
     let tails : report_bytes c ++ x ≡ report_bytes d ++ y = cc in
     ap (λ (z : Bool). Turn z) (same_report c d x y tails)
 same_call Calm Calm x y s t e = refl
-same_call (Release m) (Turn d) x y s t e = let z : ◌≡◌ {A = ℕ} 114 116 = cc in let b : ⊥ = omega arith in absurd b
-same_call (Release m) Calm x y s t e = let z : ◌≡◌ {A = ℕ} 114 99 = cc in let b : ⊥ = omega arith in absurd b
-same_call (Turn c) (Release n) x y s t e = let z : ◌≡◌ {A = ℕ} 116 114 = cc in let b : ⊥ = omega arith in absurd b
-same_call (Turn c) Calm x y s t e = let z : ◌≡◌ {A = ℕ} 116 99 = cc in let b : ⊥ = omega arith in absurd b
-same_call Calm (Release n) x y s t e = let z : ◌≡◌ {A = ℕ} 99 114 = cc in let b : ⊥ = omega arith in absurd b
-same_call Calm (Turn d) x y s t e = let z : ◌≡◌ {A = ℕ} 99 116 = cc in let b : ⊥ = omega arith in absurd b
+same_call (Release m) (Turn d) x y s t e = differ 1 e refl
+same_call (Release m) Calm x y s t e = differ 1 e refl
+same_call (Turn c) (Release n) x y s t e = differ 1 e refl
+same_call (Turn c) Calm x y s t e = differ 1 e refl
+same_call Calm (Release n) x y s t e = differ 1 e refl
+same_call Calm (Turn d) x y s t e = differ 1 e refl

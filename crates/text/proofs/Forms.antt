@@ -152,6 +152,3 @@ module _ {V : Type 0} (bytes : V → List ℕ) (Good : V → Type 0) (same : (v 
 
   pub form_stays : (s : List ℕ) (v : V) (more : List ℕ) (k : ℕ) → Good v → s ≡ bytes v ++ more → Leaves (Form bytes Good) s k → ⊥
   form_stays s v more k g e left = stays (Form bytes Good) s (bytes v) more k apart_form (v, g, refl) e left
-
-pub left_within : (L : List ℕ → Type 0) (s : List ℕ) (k : ℕ) (l : Leaves L s k) → length s ≡ length l.read + k
-left_within L s k l = ap length l.whole ∙ length-append l.read l.unread ∙ ap (λ (n : ℕ). length l.read + n) l.count

@@ -1,6 +1,6 @@
 -- The form of a row, taken apart into its words and fields, and where a text leaves it.
 
-use Rattle.std.proofs.Common.{◌≡◌, ℕ, ◌<◌, true, false, eqb, ◌≢◌, if◌then◌else◌, List, ◌∷◌, ◌++◌, get_or, Ok, Err, codes, decimal, Result, sym, refl, ap, ◌∙◌, subst, append_assoc, arith, lit<}
+use Rattle.std.proofs.Common.{◌≡◌, ℕ, ◌<◌, true, false, eqb, ◌≢◌, if◌then◌else◌, List, ◌∷◌, ◌++◌, get_or, Ok, Err, codes, decimal, Result, sym, refl, ap, ◌∙◌, subst, append_assoc, lit<}
 use Rattle.stream.specs.declared.Class.{Class}
 use Rattle.stream.specs.declared.Class.TheVariants.{Critical, Background}
 use Rattle.stream.specs.declared.Row.{Row}
@@ -55,14 +55,18 @@ module _ (one other s : List ℕ) (k : ℕ) (apart : get_or one 0 0 ≢ get_or o
 
 -- ---- the class
 
+-- texts that differ at a place are not the same
+pub differ : {X : Type 0} {s t : List ℕ} (i : ℕ) → s ≡ t → eqb (get_or s i 0) (get_or t i 0) ≡ false → X
+differ i e apart = absurd (eqb-false _ _ apart (ap (λ (l : List ℕ). get_or l i 0) e))
+
 -- a text does not begin with two bytes
 pub begins_apart : {X : Type 0} {a b : ℕ} {w x : List ℕ} → w ≡ a ∷ x → get_or w 0 0 ≡ b → eqb a b ≡ false → X
 begins_apart {X} {a} {b} e h apart = absurd (eqb-false a b apart (ap (λ (l : List ℕ). get_or l 0 0) (sym e) ∙ h))
 
 pub same_class : (k l : Class) (x y : List ℕ) → class_letter k ++ x ≡ class_letter l ++ y → (k ≡ l) × (x ≡ y)
 same_class Critical Critical x y e = (refl, (cc))
-same_class Critical Background x y e = let z : ◌≡◌ {A = ℕ} 72 76 = cc in let b : ⊥ = omega arith in absurd b
-same_class Background Critical x y e = let z : ◌≡◌ {A = ℕ} 76 72 = cc in let b : ⊥ = omega arith in absurd b
+same_class Critical Background x y e = differ 0 e refl
+same_class Background Critical x y e = differ 0 e refl
 same_class Background Background x y e = (refl, (cc))
 
 apart_class : Apart ClassForm
@@ -230,13 +234,3 @@ module _ (close : List ℕ) where
 
           pub at_gap : {deadline : ℕ} {z : List ℕ} → Small deadline × (y ≡ closed (codes ") ") deadline ++ z) → (k : ℕ) → Leaves (Field close) z k → Leaves (RowForm close) s k
           at_gap {deadline} {z} d k l = after_short k (after_field (Field close) (codes ") ") y z deadline k (lit< tt) d l)
-
-  pub row_whole : (r : Row) (s b d e f g h z : List ℕ) → Unit {0} × (s ≡ class_letter r.class ++ b) → b ≡ codes " (" ++ d → d ≡ closed (codes " ") r.budget ++ e → e ≡ closed (codes ") (") r.certain ++ f → f ≡ closed (codes " ") r.short ++ g → g ≡ closed (codes ") ") r.deadline ++ h → h ≡ closed close r.gap ++ z → s ≡ row_bytes close r ++ z
-  row_whole r s b d e f g h z e2 e3 e4 e5 e6 e7 e8 =
-      let f2 = e2.1 in
-      let f4 = simp append_assoc at e4 in
-      let f5 = simp append_assoc at e5 in
-      let f6 = simp append_assoc at e6 in
-      let f7 = simp append_assoc at e7 in
-      let f8 = simp append_assoc at e8 in
-      simp append_assoc (cc)

@@ -1,6 +1,6 @@
 -- The form of a line: one bracket, and then one of the kinds, which begin apart.
 
-use Rattle.std.proofs.Common.{◌≡◌, ℕ, List, [], ◌++◌, ◌≢◌, length, get_or, codes, decimal, sym, refl, ap, ◌∙◌, append_assoc, lit<}
+use Rattle.std.proofs.Common.{◌≡◌, ℕ, List, [], ◌++◌, ◌≢◌, length, get_or, codes, decimal, sym, refl, ap, ◌∙◌, lit<}
 use Rattle.stream.specs.declared.Class.TheVariants.{Critical}
 use Rattle.stream.specs.declared.Row.{Row}
 use Rattle.text.specs.declared.line.Line.TheVariants.{Sporadic, Raster, Go}
@@ -59,10 +59,6 @@ pub raster_phase : (r : Row) (s t u : List ℕ) (k : ℕ) → s ≡ codes "R " +
 raster_phase r s t u k e f l =
     after_prefix (codes "R ") phased_bytes SmallPhased s t k e
     (leaves_phased t k (leaves_second (RowForm (codes " ")) (Field (codes ")\n")) t (row_bytes (codes " ") r) u k (apart_row 32 [] (lit< tt)) (r, f.0, refl) f.1 l))
-
-pub raster_whole : (r : Row) (p : ℕ) (s t u z : List ℕ) → s ≡ codes "R " ++ t → t ≡ row_bytes (codes " ") r ++ u → u ≡ closed (codes ")\n") p ++ z → s ≡ raster_bytes (r, p) ++ z
-raster_whole r p s t u z e f g =
-    e ∙ ap (λ (x : List ℕ). codes "R " ++ x) (f ∙ ap (λ (x : List ℕ). row_bytes (codes " ") r ++ x) g ∙ sym (append_assoc (row_bytes (codes " ") r) (decimal p ++ codes ")\n") z))
 
 pub at_numbered : (word s : List ℕ) (k : ℕ) → Leaves (Exactly word) s k → Leaves (Form (numbered word) Small) s k
 at_numbered word s k l = at_prefix word (closed (codes ")\n")) Small s k 0 zero_small l

@@ -198,6 +198,3 @@ pub leaves_number : (close s : List ℕ) (left : ℕ) → (IsInRange 48 57 (get_
 leaves_number close s left none count =
     leaves_here (Field close) s left 48 close (0, lit< tt, ap (λ (w : List ℕ). w ++ close) (sym (decimal_digit 0 (lit< tt))))
     (λ w m h. none (subst (λ (x : ℕ). IsInRange 48 57 x) h (first_digit m.0 m.1 w close m.2))) count
-
-pub closes : (close s t z : List ℕ) (n : ℕ) → Counted s n t → t ≡ close ++ z → Small n × (s ≡ closed close n ++ z)
-closes close s t z n num e = (num.small, num.whole ∙ ap (λ (w : List ℕ). decimal n ++ w) e ∙ sym (append_assoc (decimal n) close z))

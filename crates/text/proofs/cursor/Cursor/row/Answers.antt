@@ -1,5 +1,5 @@
 use Rattle.text.proofs.Exits.{exits}
-use Rattle.text.proofs.Grammar.{at_class, at_bracket, at_budget, at_certain, at_short, at_deadline, at_gap, row_whole}
+use Rattle.text.proofs.Grammar.{at_class, at_bracket, at_budget, at_certain, at_short, at_deadline, at_gap}
 use Rattle.text.proofs.cursor.Cursor.row.Goals as goal
 
 pub returns-in_err-class : goal.returns-in_err-class
@@ -29,14 +29,3 @@ returns-in_err-deadline c =
 pub returns-in_err-gap : goal.returns-in_err-gap
 returns-in_err-gap c =
     exits c.from_residual-in_err-gap.result _ c.from_residual-in_err-gap.ensures.1 (at_gap c.args.close.now c.in_ok-class.class c.in_ok-class.ensures c.in_ok-word.ensures c.in_ok-budget.ensures c.in_ok-certain.ensures c.in_ok-short.ensures c.in_ok-deadline.ensures _ c.in_err-gap.ensures)
-
-pub returns : goal.returns
-returns c =
-    let budget = c.in_ok-budget.ensures in
-    let certain = c.in_ok-certain.ensures in
-    let short = c.in_ok-short.ensures in
-    let deadline = c.in_ok-deadline.ensures in
-    let gap = c.in_ok-gap.ensures in (
-      (budget.0, certain.0, short.0, deadline.0, gap.0),
-      row_whole c.args.close.now _ _ _ _ _ _ _ _ _ c.in_ok-class.ensures c.in_ok-word.ensures budget.1 certain.1 short.1 deadline.1 gap.1,
-    )
