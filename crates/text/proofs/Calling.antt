@@ -8,9 +8,14 @@ use Rattle.text.specs.Reading.{closed}
 use Rattle.text.specs.Words.{Form, Exactly, Small, Leaves, numbered}
 use Rattle.text.proofs.Forms.{leaves_by_first, leaves_here}
 use Rattle.text.proofs.Grammar.{begins_apart, differ, at_prefix, after_prefix}
+use Rattle.text.proofs.Lining.{at_numbered, after_numbered}
+use Rattle.text.proofs.Numerals.{Field}
 use Rattle.text.proofs.Unique.{same_moment}
 
 -- ---- the report
+
+abbrev ReportForm : List ℕ → Type 0
+ReportForm = Form report_bytes (λ _. Unit {0})
 
 abbrev TurnForm : List ℕ → Type 0
 TurnForm = Form turn_bytes (λ _. Unit {0})
@@ -58,6 +63,12 @@ module _ (s t : List ℕ) (k : ℕ) (e : s ≡ codes "(" ++ t) where
       only w (Turn d, v, f) h = begins_apart f (h ∙ is) refl
       only w (Calm, v, f) h = f
 
+  pub release_number : {u : List ℕ} → get_or t 0 0 ≡ 114 → t ≡ codes "release " ++ u → Leaves (Field (codes ")\n")) u k → Leaves CallForm s k
+  release_number {u} is f l = call_release is (after_numbered (codes "release ") t u k f l)
+
+  pub turn_report : {u : List ℕ} → get_or t 0 0 ≡ 116 → t ≡ codes "turn " ++ u → Leaves ReportForm u k → Leaves CallForm s k
+  turn_report {u} is f l = call_turn is (after_prefix (codes "turn ") report_bytes (λ _. Unit {0}) t u k f l)
+
   pub call_kind : get_or t 0 0 ≢ 114 → get_or t 0 0 ≢ 116 → get_or t 0 0 ≢ 99 → k ≡ length t → Leaves CallForm s k
   call_kind release turn calm count = after_open s t k e (leaves_here OrderForm t k 99 _ (Calm, tt, refl) none count)
     where
@@ -67,7 +78,7 @@ module _ (s t : List ℕ) (k : ℕ) (e : s ≡ codes "(" ++ t) where
       none w (Calm, v, f) h = calm (sym h ∙ ap (λ (x : List ℕ). get_or x 0 0) f)
 
 -- where each part of a call goes out of shape
-pub ruleset call_ends = (at_call, call_release, call_turn, call_calm, call_kind)
+pub ruleset call_ends = (at_call, call_release, at_numbered, release_number, call_turn, at_turn, turn_report, call_calm, call_kind)
 
 -- ---- at most one call
 

@@ -1,13 +1,12 @@
 -- The form of a row, taken apart into its words and fields, and where a text leaves it.
 
-use Rattle.std.proofs.Common.{◌≡◌, ℕ, ◌<◌, true, false, eqb, ◌≢◌, if◌then◌else◌, List, ◌∷◌, ◌++◌, get_or, Ok, Err, codes, decimal, Result, sym, refl, ap, ◌∙◌, subst, append_assoc, lit<}
+use Rattle.std.proofs.Common.{◌≡◌, ℕ, ◌<◌, true, false, eqb, ◌≢◌, if◌then◌else◌, List, ◌∷◌, ◌++◌, get_or, codes, decimal, sym, refl, ap, ◌∙◌, subst, append_assoc, lit<}
 use Rattle.stream.specs.declared.Class.{Class}
 use Rattle.stream.specs.declared.Class.TheVariants.{Critical, Background}
 use Rattle.stream.specs.declared.Row.{Row}
 use Rattle.text.specs.Lines.{class_letter, row_bytes, SmallRow}
 use Rattle.std.proofs.lemmas.Bool.{eqb-false}
-use Rattle.text.specs.declared.cursor.Misfit.{Misfit}
-use Rattle.text.specs.Reading.{closed, Reads}
+use Rattle.text.specs.Reading.{closed}
 use Rattle.text.specs.Words.{Form, Exactly, Small, Leaves}
 use Rattle.text.proofs.Forms.{Apart, Then, apart_exactly, apart_form, leaves_same, leaves_first, leaves_second, leaves_by_first}
 use Rattle.text.proofs.Numerals.{Field, apart_field}
@@ -103,10 +102,6 @@ module _ {V : Type 0} (pre : List ℕ) (bytes : V → List ℕ) (Good : V → Ty
   after_prefix s t k e l =
       leaves_same (Then (Exactly pre) (Form bytes Good)) (Form (λ v. pre ++ bytes v) Good) s k prefix_joined prefix_parts
       (after_exactly (Form bytes Good) pre s t k e l)
-
-  pub prefix_read : (r : Result V Misfit) (s t z : List ℕ) → s ≡ pre ++ t → Reads bytes Good t r z → Reads (λ v. pre ++ bytes v) Good s r z
-  prefix_read (Ok v) s t z e h = (h.0, e ∙ ap (λ (x : List ℕ). pre ++ x) h.1 ∙ sym (append_assoc pre (bytes v) z))
-  prefix_read (Err m) s t z e l = after_prefix s t m.left e l
 
 -- ---- the row, up to the bytes that close it
 

@@ -41,27 +41,20 @@ phased_joined w t =
 phased_parts : (w : List ℕ) → PhasedForm w → Then (RowForm (codes " ")) (Field (codes ")\n")) w
 phased_parts w (v, s, e) = record { front = row_bytes (codes " ") v.0; back = decimal v.1 ++ codes ")\n"; in_front = (v.0, s.0, refl); in_back = (v.1, s.1, refl); joined = e }
 
-leaves_phased : (s : List ℕ) (k : ℕ) → Leaves (Then (RowForm (codes " ")) (Field (codes ")\n"))) s k → Leaves PhasedForm s k
-leaves_phased s k l = leaves_same _ PhasedForm s k phased_joined phased_parts l
-
 pub at_sporadic : (s : List ℕ) (k : ℕ) → Leaves (Exactly (codes "S ")) s k → Leaves SporadicForm s k
 at_sporadic s k l = at_prefix (codes "S ") (row_bytes (codes ")\n")) SmallRow s k some_row some_small l
 
 pub at_raster : (s : List ℕ) (k : ℕ) → Leaves (Exactly (codes "R ")) s k → Leaves RasterForm s k
 at_raster s k l = at_prefix (codes "R ") phased_bytes SmallPhased s k (some_row, 0) (some_small, zero_small) l
 
-pub raster_row : (s t : List ℕ) (k : ℕ) → s ≡ codes "R " ++ t → Leaves (RowForm (codes " ")) t k → Leaves RasterForm s k
-raster_row s t k e l =
-    after_prefix (codes "R ") phased_bytes SmallPhased s t k e
-    (leaves_phased t k (leaves_first (RowForm (codes " ")) (Field (codes ")\n")) t k _ (apart_row 32 [] (lit< tt)) (0, zero_small, refl) l))
-
-pub raster_phase : (r : Row) (s t u : List ℕ) (k : ℕ) → s ≡ codes "R " ++ t → SmallRow r × (t ≡ row_bytes (codes " ") r ++ u) → Leaves (Field (codes ")\n")) u k → Leaves RasterForm s k
-raster_phase r s t u k e f l =
-    after_prefix (codes "R ") phased_bytes SmallPhased s t k e
-    (leaves_phased t k (leaves_second (RowForm (codes " ")) (Field (codes ")\n")) t (row_bytes (codes " ") r) u k (apart_row 32 [] (lit< tt)) (r, f.0, refl) f.1 l))
+after_raster : (s t : List ℕ) (k : ℕ) → s ≡ codes "R " ++ t → Leaves (Then (RowForm (codes " ")) (Field (codes ")\n"))) t k → Leaves RasterForm s k
+after_raster s t k e l = after_prefix (codes "R ") phased_bytes SmallPhased s t k e (leaves_same _ PhasedForm t k phased_joined phased_parts l)
 
 pub at_numbered : (word s : List ℕ) (k : ℕ) → Leaves (Exactly word) s k → Leaves (Form (numbered word) Small) s k
 at_numbered word s k l = at_prefix word (closed (codes ")\n")) Small s k 0 zero_small l
+
+pub after_numbered : (word s t : List ℕ) (k : ℕ) → s ≡ word ++ t → Leaves (Field (codes ")\n")) t k → Leaves (Form (numbered word) Small) s k
+after_numbered word s t k e l = after_prefix word (closed (codes ")\n")) Small s t k e l
 
 -- ---- the line
 
@@ -100,6 +93,19 @@ module _ (s t : List ℕ) (k : ℕ) (e : s ≡ codes "(" ++ t) where
       only w (Raster r p, v, f) h = begins_apart f (h ∙ is) refl
       only w (Go m, v, f) h = (m, v, f)
 
+  pub sporadic_row : {u : List ℕ} → get_or t 0 0 ≡ 83 → t ≡ codes "S " ++ u → Leaves (RowForm (codes ")\n")) u k → Leaves LineForm s k
+  sporadic_row {u} is f l = line_sporadic is (after_prefix (codes "S ") (row_bytes (codes ")\n")) SmallRow t u k f l)
+
+  pub raster_row : {u : List ℕ} → get_or t 0 0 ≡ 82 → t ≡ codes "R " ++ u → Leaves (RowForm (codes " ")) u k → Leaves LineForm s k
+  raster_row {u} is f l = line_raster is (after_raster t u k f (leaves_first (RowForm (codes " ")) (Field (codes ")\n")) u k _ (apart_row 32 [] (lit< tt)) (0, zero_small, refl) l))
+
+  pub raster_phase : {u v : List ℕ} → get_or t 0 0 ≡ 82 → t ≡ codes "R " ++ u → (r : Row) → SmallRow r × (u ≡ row_bytes (codes " ") r ++ v) → Leaves (Field (codes ")\n")) v k → Leaves LineForm s k
+  raster_phase {u} {v} is f r g l =
+      line_raster is (after_raster t u k f (leaves_second (RowForm (codes " ")) (Field (codes ")\n")) u (row_bytes (codes " ") r) v k (apart_row 32 [] (lit< tt)) (r, g.0, refl) g.1 l))
+
+  pub moment_number : {u : List ℕ} → get_or t 0 0 ≡ 103 → t ≡ codes "go " ++ u → Leaves (Field (codes ")\n")) u k → Leaves LineForm s k
+  moment_number {u} is f l = line_moment is (after_numbered (codes "go ") t u k f l)
+
   pub line_kind : get_or t 0 0 ≢ 83 → get_or t 0 0 ≢ 82 → get_or t 0 0 ≢ 103 → k ≡ length t → Leaves LineForm s k
   line_kind sporadic raster moment count = after_open s t k e (leaves_here ItemForm t k 103 _ (Go 0, zero_small, refl) none count)
     where
@@ -109,4 +115,4 @@ module _ (s t : List ℕ) (k : ℕ) (e : s ≡ codes "(" ++ t) where
       none w (Go m, v, f) h = moment (sym h ∙ ap (λ (x : List ℕ). get_or x 0 0) f)
 
 -- where each part of a line goes out of shape
-pub ruleset line_ends = (at_line, line_sporadic, line_raster, line_moment, line_kind)
+pub ruleset line_ends = (at_line, line_sporadic, at_sporadic, sporadic_row, line_raster, at_raster, raster_row, line_moment, at_numbered, moment_number, line_kind)

@@ -5,7 +5,7 @@ ghost use Rattle.std.specs.Str.Parse.{AllDigits, digits_value};
 ghost use Rattle.std.specs.Float.Numeral.{digits_len};
 ghost use Rattle.std.specs.Int.{IsInRange};
 ghost use Rattle.text.specs.Reading.{ahead, closed, Reads, Strays, Numeral, Counted};
-ghost use Rattle.text.specs.Words.{Exactly, Small, numbered};
+ghost use Rattle.text.specs.Words.{Exactly, Small};
 
 mod calls;
 mod lines;
@@ -119,14 +119,5 @@ impl<'a> Cursor<'a> {
         let value = self.digits()?;
         self.word(close)?;
         Ok(value)
-    }
-
-    // A word and a number, to the end of their line.
-    #[tactic(auto, using(crate::proofs::Lining::at_numbered))]
-    fn numbered(&mut self, word: &[u8]) -> Result<u64, Misfit>
-        ensures { Reads (numbered word.now) Small (ahead self.old) result (ahead self.new) }
-    {
-        self.word(word)?;
-        self.number(b")\n")
     }
 }

@@ -1,7 +1,7 @@
 // Reading the lines of a script from their parts.
 
 ghost use Rattle.std.proofs.Common.{rules};
-ghost use Rattle.text.specs.Calls.{report_bytes, turn_bytes, call_bytes, ValidCall};
+ghost use Rattle.text.specs.Calls.{report_bytes, call_bytes, ValidCall};
 ghost use Rattle.text.specs.Reading.{ahead, Reads};
 
 use crate::call::Call;
@@ -16,23 +16,20 @@ impl<'a> Cursor<'a> {
         self.either(b"yes)\n", b"no)\n")
     }
 
-    // A turn and its report, after the first bracket of its line.
-    #[tactic(auto, using(crate::proofs::Calling::at_turn))]
-    fn turn(&mut self) -> Result<bool, Misfit>
-        ensures { Reads turn_bytes (λ _. Unit {0}) (ahead self.old) result (ahead self.new) }
-    {
-        self.word(b"turn ")?;
-        self.report()
-    }
-
     #[tactic(auto, using(crate::proofs::Calling::call_ends))]
     fn call(&mut self) -> Result<Call, Misfit>
         ensures { Reads call_bytes ValidCall (ahead self.old) result (ahead self.new) }
     {
         self.word(b"(")?;
         match head(self.rest) {
-            'r' => Ok(Call::Release(self.numbered(b"release ")?)),
-            't' => Ok(Call::Turn(self.turn()?)),
+            'r' => {
+                self.word(b"release ")?;
+                Ok(Call::Release(self.number(b")\n")?))
+            }
+            't' => {
+                self.word(b"turn ")?;
+                Ok(Call::Turn(self.report()?))
+            }
             'c' => {
                 self.word(b"calm)\n")?;
                 Ok(Call::Calm)

@@ -2,7 +2,7 @@
 
 ghost use Rattle.std.specs.Prelude.{◌<◌, slice_index_or};
 ghost use Rattle.std.proofs.Common.{rules};
-ghost use Rattle.text.specs.Lines.{class_letter, row_bytes, sporadic_bytes, raster_bytes, render, SmallRow, SmallPhased, Valid};
+ghost use Rattle.text.specs.Lines.{class_letter, row_bytes, render, SmallRow, Valid};
 ghost use Rattle.text.specs.Reading.{ahead, Reads};
 
 use crate::cursor::{Cursor, Misfit, head};
@@ -44,37 +44,26 @@ impl<'a> Cursor<'a> {
         })
     }
 
-    // A sporadic stream, after the first bracket of its line.
-    #[tactic(auto, using(crate::proofs::Lining::at_sporadic))]
-    fn sporadic(&mut self) -> Result<Row, Misfit>
-        ensures { Reads sporadic_bytes SmallRow (ahead self.old) result (ahead self.new) }
-    {
-        self.word(b"S ")?;
-        self.row(b")\n")
-    }
-
-    // A raster stream with its phase, after the first bracket of its line.
-    fn raster(&mut self) -> Result<(Row, u64), Misfit>
-        ensures { Reads raster_bytes SmallPhased (ahead self.old) result (ahead self.new) }
-    {
-        self.word(b"R ")?;
-        let row = self.row(b" ")?;
-        let phase = self.number(b")\n")?;
-        Ok((row, phase))
-    }
-
     #[tactic(auto, using(crate::proofs::Lining::line_ends))]
     fn line(&mut self) -> Result<Line, Misfit>
         ensures { Reads render Valid (ahead self.old) result (ahead self.new) }
     {
         self.word(b"(")?;
         match head(self.rest) {
-            'S' => Ok(Line::Sporadic(self.sporadic()?)),
+            'S' => {
+                self.word(b"S ")?;
+                Ok(Line::Sporadic(self.row(b")\n")?))
+            }
             'R' => {
-                let (row, phase) = self.raster()?;
+                self.word(b"R ")?;
+                let row = self.row(b" ")?;
+                let phase = self.number(b")\n")?;
                 Ok(Line::Raster(row, phase))
             }
-            'g' => Ok(Line::Go(self.numbered(b"go ")?)),
+            'g' => {
+                self.word(b"go ")?;
+                Ok(Line::Go(self.number(b")\n")?))
+            }
             _ => Err(self.misfit()),
         }
     }
