@@ -1,13 +1,13 @@
 -- The form of a row, taken apart into its words and fields, and where a text leaves it.
 
-use Rattle.std.proofs.Common.{◌≡◌, ℕ, ◌<◌, true, false, eqb, ◌≢◌, if◌then◌else◌, List, ◌∷◌, ◌++◌, get_or, codes, decimal, sym, refl, ap, ◌∙◌, subst, append_assoc, lit<}
+use Rattle.std.proofs.Common.{◌≡◌, ℕ, ◌<◌, true, false, eqb, ◌≢◌, List, ◌∷◌, ◌++◌, get_or, codes, decimal, sym, refl, ap, ◌∙◌, subst, append_assoc, lit<}
 use Rattle.stream.specs.declared.Class.{Class}
 use Rattle.stream.specs.declared.Class.TheVariants.{Critical, Background}
 use Rattle.stream.specs.declared.Row.{Row}
 use Rattle.text.specs.Lines.{class_letter, row_bytes, SmallRow}
 use Rattle.std.proofs.lemmas.Bool.{eqb-false}
 use Rattle.text.specs.Reading.{closed}
-use Rattle.text.specs.Words.{Form, Exactly, Small, Leaves}
+use Rattle.text.specs.Words.{Form, Exactly, Small, Leaves, one_of}
 use Rattle.text.proofs.Forms.{Apart, Then, apart_exactly, apart_form, leaves_same, leaves_first, leaves_second, leaves_by_first}
 use Rattle.text.proofs.Numerals.{Field, apart_field}
 
@@ -35,11 +35,11 @@ after_field M close s t n k low e l =
 -- ---- one of two words, which begin apart
 
 abbrev pub OneOf : List ℕ → List ℕ → List ℕ → Type 0
-OneOf one other = Form (λ first. if first then one else other) (λ _. Unit {0})
+OneOf one other = Form (one_of one other) (λ _. Unit {0})
 
-module _ (one other s : List ℕ) (k : ℕ) (apart : get_or one 0 0 ≢ get_or other 0 0) where
-  pub leaves_one : get_or s 0 0 ≡ get_or one 0 0 → Leaves (Exactly one) s k → Leaves (OneOf one other) s k
-  leaves_one first l = leaves_by_first (Exactly one) (OneOf one other) s k (λ w e. (true, tt, e)) only l
+module _ (one other s : List ℕ) (k : ℕ) where
+  pub leaves_one : get_or one 0 0 ≢ get_or other 0 0 → get_or s 0 0 ≡ get_or one 0 0 → Leaves (Exactly one) s k → Leaves (OneOf one other) s k
+  leaves_one apart first l = leaves_by_first (Exactly one) (OneOf one other) s k (λ w e. (true, tt, e)) only l
     where
       only : (w : List ℕ) → OneOf one other w → get_or w 0 0 ≡ get_or s 0 0 → Exactly one w
       only w (true, u, e) h = e

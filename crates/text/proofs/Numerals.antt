@@ -52,7 +52,7 @@ module _ (text : List ℕ) (most len : ℕ) (is : len ≡ min (digits_len text) 
           (λ (past : length text ≤ len). omega (arith, digit.0, get_or_past text len 0 past))
           (cases_lt len (length text))
 
-  pub numeral : Numeral text len
+  numeral : Numeral text len
   numeral = record {
     within = omega (arith, prefix_len-le-length is_ascii_digit text);
     short = ⊎_elim (λ k. omega (arith, k.0)) (λ k. omega (arith, k.0)) kind;
@@ -60,6 +60,12 @@ module _ (text : List ℕ) (most len : ℕ) (is : len ≡ min (digits_len text) 
     lone = λ h. ⊎_elim (λ k. omega (arith, k.0)) (λ k. absurd (k.1 h)) kind;
     full = full;
   }
+
+pub numeral_alone : (text : List ℕ) → get_or text 0 0 ≡ 48 → Numeral text (min (digits_len text) 1)
+numeral_alone text first = numeral text 1 _ refl (inl (refl, first))
+
+pub numeral_long : (text : List ℕ) → get_or text 0 0 ≢ 48 → Numeral text (min (digits_len text) 13)
+numeral_long text first = numeral text 13 _ refl (inr (refl, first))
 
 -- one digit more, and what it makes of the number so far
 pub value_step : (ds : List ℕ) (i : ℕ) → AllDigits 10 ds → length ds ≤ 13 → i < length ds → (digits_value 10 (take i ds) < 10 ^ 12) × (digits_value 10 (take (i + 1) ds) ≡ digits_value 10 (take i ds) * 10 + (get_or ds i 0 - 48)) × IsInRange 48 57 (get_or ds i 0)

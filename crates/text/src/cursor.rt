@@ -1,11 +1,11 @@
 // Reading the parts of a line, byte by byte.
 
-ghost use Rattle.std.specs.Prelude.{◌≡◌, ℕ, ◌<◌, ◌≤◌, List, [], ◌∷◌, ◌++◌, length, MatchResult, ◌≢◌, slice_index_or, if◌then◌else◌};
+ghost use Rattle.std.specs.Prelude.{◌≡◌, ℕ, ◌<◌, ◌≤◌, List, [], ◌∷◌, ◌++◌, length, MatchResult, ◌≢◌, slice_index_or};
 ghost use Rattle.std.specs.Str.Parse.{AllDigits, digits_value};
 ghost use Rattle.std.specs.Float.Numeral.{digits_len};
 ghost use Rattle.std.specs.Int.{IsInRange};
 ghost use Rattle.text.specs.Reading.{ahead, closed, Reads, Strays, Numeral, Counted};
-ghost use Rattle.text.specs.Words.{Exactly, Small};
+ghost use Rattle.text.specs.Words.{Exactly, Small, one_of};
 
 mod calls;
 mod lines;
@@ -40,6 +40,7 @@ fn digits_len(text: &[u8]) -> usize
 }
 
 // How many digits at the front of the text are one number: 0 stands alone.
+#[tactic(auto, using(crate::proofs::Numerals::numeral_alone, crate::proofs::Numerals::numeral_long))]
 fn numeral_len(text: &[u8]) -> usize
     ensures { Numeral text.now result }
 {
@@ -72,6 +73,7 @@ impl<'a> Cursor<'a> {
     }
 
     // Byte by byte, since a misfit stands at the first that differs.
+    #[tactic(auto, using(crate::proofs::Forms::leaves_exactly))]
     fn word(&mut self, word: &[u8]) -> Result<(), Misfit>
         ensures { MatchResult result (λ _. ahead self.old ≡ word.now ++ ahead self.new) (λ e. Strays (Exactly word.now) (ahead self.old) e) }
     {
@@ -85,9 +87,10 @@ impl<'a> Cursor<'a> {
     }
 
     // Whether one word comes, or else the other. They begin apart.
+    #[tactic(auto, using(crate::proofs::Grammar::leaves_other))]
     fn either(&mut self, one: &[u8], other: &[u8]) -> Result<bool, Misfit>
         requires { slice_index_or one.now 0 0 ≢ slice_index_or other.now 0 0 }
-        ensures { Reads (λ first. if first then one.now else other.now) (λ _. Unit {0}) (ahead self.old) result (ahead self.new) }
+        ensures { Reads (one_of one.now other.now) (λ _. Unit {0}) (ahead self.old) result (ahead self.new) }
     {
         if head(self.rest) == head(one) {
             self.word(one)?;
