@@ -80,7 +80,7 @@ pub(crate) fn read_plan(reader: &mut Reader, tables: &mut Tables) -> Result<Opti
 {
     while !reader.at_end() {
         let line = reader.line_number();
-        match reader.next_line()? {
+        match reader.next::<Line>()? {
             Line::Sporadic(row) => add_sporadic(tables, row, line)?,
             Line::Raster(row, phase) => add_raster(tables, row, phase, line)?,
             Line::Go(moment) => return Ok(Some(Start { moment, line })),

@@ -66,7 +66,7 @@ pub(crate) fn run_script<B: Bank + Drop>(
 {
     while !reader.at_end() {
         let line = reader.line_number();
-        match reader.next_call() {
+        match reader.next::<Call>() {
             Ok(call) => answers.tell(perform(&mut engine, call, line))?,
             Err(fault) => return answers.tell(Answer::Refused(fault)),
         }

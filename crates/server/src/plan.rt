@@ -62,7 +62,7 @@ fn read_plan(reader: &mut Reader, tables: &mut Tables) -> Result<Start, Fault>
 {
     loop {
         let line = reader.line_number();
-        match reader.next_line()? {
+        match reader.next::<Line>()? {
             Line::Sporadic(row) => add_sporadic(tables, row, line)?,
             Line::Raster(row, phase) => add_raster(tables, row, phase, line)?,
             Line::Go(moment) => return Ok(Start { moment, line }),

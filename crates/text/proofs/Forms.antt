@@ -1,6 +1,6 @@
 -- Where a text leaves a form, from where it leaves a part of the form.
 
-use Rattle.std.proofs.Common.{◌≡◌, ℕ, ◌+◌, ◌<◌, ◌⊎◌, List, [], ◌∷◌, ◌++◌, length, get_or, take, drop, sym, refl, ap, ◌∙◌, subst, inl, inr, ⊎_elim, append_assoc, append-nil, arith, length-append}
+use Rattle.std.proofs.Common.{◌≡◌, ℕ, ◌+◌, ◌<◌, ◌⊎◌, ◌≢◌, List, [], ◌∷◌, ◌++◌, length, get_or, take, drop, sym, refl, ap, ◌∙◌, subst, inl, inr, ⊎_elim, append_assoc, append-nil, arith, length-append}
 use Rattle.std.proofs.lemmas.List.{append_cancel_left, take-append-drop, drop_more}
 use Rattle.text.specs.Words.{Form, Exactly, Leaves}
 
@@ -88,9 +88,9 @@ same_head : (p : List ℕ) (c : ℕ) (x y : List ℕ) → get_or (p ++ c ∷ x) 
 same_head [] c x y = refl
 same_head (a ∷ p) c x y = refl
 
--- of a form whose words with this first byte are those of a part, the text leaves the part where it leaves the form
-pub leaves_by_first : (L M : List ℕ → Type 0) (s more : List ℕ) (n a : ℕ) → s ≡ a ∷ more → ((w : List ℕ) → L w → M w) → ((w : List ℕ) → M w → get_or w 0 0 ≡ a → L w) → Leaves L s n → Leaves M s n
-leaves_by_first L M s more n a begins to only l = record {
+-- of a form whose words that begin as the text does are those of a part, the text leaves the part where it leaves the form
+pub leaves_by_first : (L M : List ℕ → Type 0) (s : List ℕ) (n : ℕ) → ((w : List ℕ) → L w → M w) → ((w : List ℕ) → M w → get_or w 0 0 ≡ get_or s 0 0 → L w) → Leaves L s n → Leaves M s n
+leaves_by_first L M s n to only l = record {
   read = l.read;
   unread = l.unread;
   whole = l.whole;
@@ -98,19 +98,21 @@ leaves_by_first L M s more n a begins to only l = record {
   halts = record {
     due = (l.halts.due.0, l.halts.due.1, to _ l.halts.due.2);
     dead = λ c rest w e m.
-        let whole : a ∷ more ≡ l.read ++ c ∷ rest = sym begins ∙ l.whole ∙ ap (λ (x : List ℕ). l.read ++ x) e in
-        l.halts.dead c rest w e (only _ m (same_head l.read c w rest ∙ ap (λ (x : List ℕ). get_or x 0 0) (sym whole)));
+        let whole : l.read ++ c ∷ rest ≡ s = sym (l.whole ∙ ap (λ (x : List ℕ). l.read ++ x) e) in
+        l.halts.dead c rest w e (only _ m (same_head l.read c w rest ∙ ap (λ (x : List ℕ). get_or x 0 0) whole));
   };
 }
 
 -- the very first byte begins no word
-pub leaves_here : (L : List ℕ → Type 0) (s : List ℕ) (n b : ℕ) (z : List ℕ) → L (b ∷ z) → ((c : ℕ) (more w : List ℕ) → s ≡ c ∷ more → L (c ∷ w) → ⊥) → n ≡ length s → Leaves L s n
-leaves_here L s n b z word none count = record { read = []; unread = s; whole = refl; count = sym count; halts = record { due = (b, z, word); dead = none } }
+pub leaves_here : (L : List ℕ → Type 0) (s : List ℕ) (n b : ℕ) (z : List ℕ) → L (b ∷ z) → ((w : List ℕ) → L w → get_or w 0 0 ≡ get_or s 0 0 → ⊥) → n ≡ length s → Leaves L s n
+leaves_here L s n b z word none count =
+    let others : (c : ℕ) (more w : List ℕ) → s ≡ c ∷ more → L (c ∷ w) → ⊥ = λ c more w e m. none (c ∷ w) m (ap (λ (x : List ℕ). get_or x 0 0) (sym e)) in
+    record { read = []; unread = s; whole = refl; count = sym count; halts = record { due = (b, z, word); dead = others } }
 
 -- the byte at i of the bytes that are due does not come
-pub leaves_exactly : (bytes s t : List ℕ) (i n : ℕ) → i < length bytes → s ≡ take i bytes ++ t → ((more : List ℕ) → t ≡ get_or bytes i 0 ∷ more → ⊥) → n ≡ length t → Leaves (Exactly bytes) s n
+pub leaves_exactly : (bytes s t : List ℕ) (i n : ℕ) → i < length bytes → s ≡ take i bytes ++ t → (length t ≡ 0) ⊎ (get_or t 0 0 ≢ get_or bytes i 0) → n ≡ length t → Leaves (Exactly bytes) s n
 leaves_exactly bytes s t i n lt e missing count =
-    let split : take i bytes ++ (get_or bytes i 0 ∷ drop (i + 1) bytes) ≡ bytes = ap (λ (x : List ℕ). take i bytes ++ x) (sym (drop_more bytes i 0 lt)) ∙ take-append-drop i bytes in
+    let split : take i bytes ++ (get_or bytes i 0 ∷ drop (i + 1) bytes) ≡ bytes = rw (← drop_more bytes i 0 lt) (take-append-drop i bytes) in
     record {
       read = take i bytes;
       unread = t;
@@ -121,7 +123,7 @@ leaves_exactly bytes s t i n lt e missing count =
         dead = λ c more w h m.
             let tails : c ∷ w ≡ get_or bytes i 0 ∷ drop (i + 1) bytes = append_cancel_left (take i bytes) _ _ (m ∙ sym split) in
             let same : c ≡ get_or bytes i 0 = cc in
-            missing more (h ∙ ap (λ (x : ℕ). x ∷ more) same);
+            ⊎_elim (λ none. omega (arith, none, ap length h)) (λ other. other (ap (λ (x : List ℕ). get_or x 0 0) h ∙ same)) missing;
       };
     }
 
@@ -150,6 +152,3 @@ module _ {V : Type 0} (bytes : V → List ℕ) (Good : V → Type 0) (same : (v 
 
   pub form_stays : (s : List ℕ) (v : V) (more : List ℕ) (k : ℕ) → Good v → s ≡ bytes v ++ more → Leaves (Form bytes Good) s k → ⊥
   form_stays s v more k g e left = stays (Form bytes Good) s (bytes v) more k apart_form (v, g, refl) e left
-
-pub left_within : (L : List ℕ → Type 0) (s : List ℕ) (k : ℕ) (l : Leaves L s k) → length s ≡ length l.read + k
-left_within L s k l = ap length l.whole ∙ length-append l.read l.unread ∙ ap (λ (n : ℕ). length l.read + n) l.count

@@ -1,15 +1,14 @@
 -- The form of a row, taken apart into its words and fields, and where a text leaves it.
 
-use Rattle.std.proofs.Common.{◌≡◌, ℕ, ◌<◌, List, [], ◌∷◌, ◌++◌, length, get_or, Ok, Err, codes, decimal, Result, sym, refl, ap, ◌∙◌, subst, append_assoc, arith, lit<}
+use Rattle.std.proofs.Common.{◌≡◌, ℕ, ◌<◌, true, false, eqb, ◌≢◌, List, ◌∷◌, ◌++◌, get_or, codes, decimal, sym, refl, ap, ◌∙◌, subst, append_assoc, lit<}
 use Rattle.stream.specs.declared.Class.{Class}
 use Rattle.stream.specs.declared.Class.TheVariants.{Critical, Background}
 use Rattle.stream.specs.declared.Row.{Row}
 use Rattle.text.specs.Lines.{class_letter, row_bytes, SmallRow}
-use Rattle.stream.specs.declared.Fault.{Fault}
-use Rattle.text.specs.declared.cursor.Origin.{Origin}
-use Rattle.text.specs.Reading.{closed, Reads}
-use Rattle.text.specs.Words.{Form, Exactly, Small, Leaves}
-use Rattle.text.proofs.Forms.{Apart, Then, apart_exactly, apart_form, leaves_same, leaves_first, leaves_second, leaves_by_first, leaves_here}
+use Rattle.std.proofs.lemmas.Bool.{eqb-false}
+use Rattle.text.specs.Reading.{closed}
+use Rattle.text.specs.Words.{Form, Exactly, Small, Leaves, one_of}
+use Rattle.text.proofs.Forms.{Apart, Then, apart_exactly, apart_form, leaves_same, leaves_first, leaves_second, leaves_by_first}
 use Rattle.text.proofs.Numerals.{Field, apart_field}
 
 abbrev pub ClassForm : List ℕ → Type 0
@@ -33,46 +32,55 @@ after_field : (M : List ℕ → Type 0) (close s t : List ℕ) (n k : ℕ) → g
 after_field M close s t n k low e l =
     leaves_second (Field close) M s (decimal n ++ close) t k (apart_field close low) (n, e.0, refl) e.1 l
 
+-- ---- one of two words, which begin apart
+
+abbrev pub OneOf : List ℕ → List ℕ → List ℕ → Type 0
+OneOf one other = Form (one_of one other) (λ _. Unit {0})
+
+module _ (one other s : List ℕ) (k : ℕ) where
+  pub leaves_one : get_or one 0 0 ≢ get_or other 0 0 → get_or s 0 0 ≡ get_or one 0 0 → Leaves (Exactly one) s k → Leaves (OneOf one other) s k
+  leaves_one apart first l = leaves_by_first (Exactly one) (OneOf one other) s k (λ w e. (true, tt, e)) only l
+    where
+      only : (w : List ℕ) → OneOf one other w → get_or w 0 0 ≡ get_or s 0 0 → Exactly one w
+      only w (true, u, e) h = e
+      only w (false, u, e) h = absurd (apart (sym first ∙ sym h ∙ ap (λ (x : List ℕ). get_or x 0 0) e))
+
+  pub leaves_other : get_or s 0 0 ≢ get_or one 0 0 → Leaves (Exactly other) s k → Leaves (OneOf one other) s k
+  leaves_other first l = leaves_by_first (Exactly other) (OneOf one other) s k (λ w e. (false, tt, e)) only l
+    where
+      only : (w : List ℕ) → OneOf one other w → get_or w 0 0 ≡ get_or s 0 0 → Exactly other w
+      only w (true, u, e) h = absurd (first (sym h ∙ ap (λ (x : List ℕ). get_or x 0 0) e))
+      only w (false, u, e) h = e
+
 -- ---- the class
 
-pub begins : (w : List ℕ) (a b : ℕ) (x : List ℕ) → w ≡ a ∷ x → get_or w 0 0 ≡ b → a ≡ b
-begins w a b x e h = ap (λ (l : List ℕ). get_or l 0 0) (sym e) ∙ h
+-- texts that differ at a place are not the same
+pub differ : {X : Type 0} {s t : List ℕ} (i : ℕ) → s ≡ t → eqb (get_or s i 0) (get_or t i 0) ≡ false → X
+differ i e apart = absurd (eqb-false _ _ apart (ap (λ (l : List ℕ). get_or l i 0) e))
+
+-- a text does not begin with two bytes
+pub begins_apart : {X : Type 0} {a b : ℕ} {w x : List ℕ} → w ≡ a ∷ x → get_or w 0 0 ≡ b → eqb a b ≡ false → X
+begins_apart {X} {a} {b} e h apart = absurd (eqb-false a b apart (ap (λ (l : List ℕ). get_or l 0 0) (sym e) ∙ h))
 
 pub same_class : (k l : Class) (x y : List ℕ) → class_letter k ++ x ≡ class_letter l ++ y → (k ≡ l) × (x ≡ y)
 same_class Critical Critical x y e = (refl, (cc))
-same_class Critical Background x y e = let z : ◌≡◌ {A = ℕ} 72 76 = cc in let b : ⊥ = omega arith in absurd b
-same_class Background Critical x y e = let z : ◌≡◌ {A = ℕ} 76 72 = cc in let b : ⊥ = omega arith in absurd b
+same_class Critical Background x y e = differ 0 e refl
+same_class Background Critical x y e = differ 0 e refl
 same_class Background Background x y e = (refl, (cc))
 
 apart_class : Apart ClassForm
 apart_class = apart_form class_letter (λ _. Unit {0}) (λ k l x y _ _ e. (same_class k l x y e).0)
 
--- of words that begin apart, the text's first byte says which it can leave
-pub leaves_word : {V : Type 0} (bytes : V → List ℕ) (v : V) (a : ℕ) (s more : List ℕ) (k : ℕ) → ((w : V) → get_or (bytes w) 0 0 ≡ a → w ≡ v) → s ≡ a ∷ more → Leaves (Exactly (bytes v)) s k → Leaves (Form bytes (λ _. Unit {0})) s k
-leaves_word bytes v a s more k only e l =
-    leaves_by_first (Exactly (bytes v)) (Form bytes (λ _. Unit {0})) s more k a e (λ w m. (v, tt, m))
-    (λ w m h. m.2 ∙ ap bytes (only m.0 (ap (λ (x : List ℕ). get_or x 0 0) (sym m.2) ∙ h))) l
+pub leaves_class : (s : List ℕ) (k : ℕ) → Leaves (OneOf (codes "H") (codes "L")) s k → Leaves ClassForm s k
+leaves_class s k l = leaves_same (OneOf (codes "H") (codes "L")) ClassForm s k to from l
+  where
+    to : (w : List ℕ) → OneOf (codes "H") (codes "L") w → ClassForm w
+    to w (true, u, e) = (Critical, u, e)
+    to w (false, u, e) = (Background, u, e)
 
-only_critical : (class : Class) → get_or (class_letter class) 0 0 ≡ 72 → class ≡ Critical
-only_critical Critical h = refl
-only_critical Background h = let b : ⊥ = omega arith in absurd b
-
-only_background : (class : Class) → get_or (class_letter class) 0 0 ≡ 76 → class ≡ Background
-only_background Critical h = let b : ⊥ = omega arith in absurd b
-only_background Background h = refl
-
-pub leaves_critical : (s more : List ℕ) (k : ℕ) → s ≡ 72 ∷ more → Leaves (Exactly (codes "H")) s k → Leaves ClassForm s k
-leaves_critical s more k e l = leaves_word class_letter Critical 72 s more k only_critical e l
-
-pub leaves_background : (s more : List ℕ) (k : ℕ) → s ≡ 76 ∷ more → Leaves (Exactly (codes "L")) s k → Leaves ClassForm s k
-leaves_background s more k e l = leaves_word class_letter Background 76 s more k only_background e l
-
-class_comes : (s : List ℕ) → ((more : List ℕ) → s ≡ 72 ∷ more → ⊥) → ((more : List ℕ) → s ≡ 76 ∷ more → ⊥) → (c : ℕ) (more w : List ℕ) → s ≡ c ∷ more → ClassForm (c ∷ w) → ⊥
-class_comes s h l c more w e (Critical, u, p) = h more (cc)
-class_comes s h l c more w e (Background, u, p) = l more (cc)
-
-pub leaves_class : (s : List ℕ) (k : ℕ) → ((more : List ℕ) → s ≡ 72 ∷ more → ⊥) → ((more : List ℕ) → s ≡ 76 ∷ more → ⊥) → k ≡ length s → Leaves ClassForm s k
-leaves_class s k h l count = leaves_here ClassForm s k 72 [] (Critical, tt, refl) (class_comes s h l) count
+    from : (w : List ℕ) → ClassForm w → OneOf (codes "H") (codes "L") w
+    from w (Critical, u, e) = (true, u, e)
+    from w (Background, u, e) = (false, u, e)
 
 -- ---- a word in front of a form
 
@@ -94,10 +102,6 @@ module _ {V : Type 0} (pre : List ℕ) (bytes : V → List ℕ) (Good : V → Ty
   after_prefix s t k e l =
       leaves_same (Then (Exactly pre) (Form bytes Good)) (Form (λ v. pre ++ bytes v) Good) s k prefix_joined prefix_parts
       (after_exactly (Form bytes Good) pre s t k e l)
-
-  pub prefix_read : (origin : Origin) (r : Result V Fault) (s t z : List ℕ) → s ≡ pre ++ t → Reads origin bytes Good t r z → Reads origin (λ v. pre ++ bytes v) Good s r z
-  prefix_read origin (Ok v) s t z e h = (h.0, e ∙ ap (λ (x : List ℕ). pre ++ x) h.1 ∙ sym (append_assoc pre (bytes v) z))
-  prefix_read origin (Err f) s t z e h = record { left = h.left; leaves = after_prefix s t h.left e h.leaves; place = h.place }
 
 -- ---- the row, up to the bytes that close it
 
@@ -225,13 +229,3 @@ module _ (close : List ℕ) where
 
           pub at_gap : {deadline : ℕ} {z : List ℕ} → Small deadline × (y ≡ closed (codes ") ") deadline ++ z) → (k : ℕ) → Leaves (Field close) z k → Leaves (RowForm close) s k
           at_gap {deadline} {z} d k l = after_short k (after_field (Field close) (codes ") ") y z deadline k (lit< tt) d l)
-
-  pub row_whole : (r : Row) (s b d e f g h z : List ℕ) → Unit {0} × (s ≡ class_letter r.class ++ b) → b ≡ codes " (" ++ d → d ≡ closed (codes " ") r.budget ++ e → e ≡ closed (codes ") (") r.certain ++ f → f ≡ closed (codes " ") r.short ++ g → g ≡ closed (codes ") ") r.deadline ++ h → h ≡ closed close r.gap ++ z → s ≡ row_bytes close r ++ z
-  row_whole r s b d e f g h z e2 e3 e4 e5 e6 e7 e8 =
-      let f2 = e2.1 in
-      let f4 = simp append_assoc at e4 in
-      let f5 = simp append_assoc at e5 in
-      let f6 = simp append_assoc at e6 in
-      let f7 = simp append_assoc at e7 in
-      let f8 = simp append_assoc at e8 in
-      simp append_assoc (cc)

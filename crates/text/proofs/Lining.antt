@@ -1,14 +1,14 @@
 -- The form of a line: one bracket, and then one of the kinds, which begin apart.
 
-use Rattle.std.proofs.Common.{◌≡◌, ℕ, List, [], ◌∷◌, ◌++◌, length, get_or, codes, decimal, sym, refl, ap, ◌∙◌, append_assoc, arith, lit<}
+use Rattle.std.proofs.Common.{◌≡◌, ℕ, List, [], ◌++◌, ◌≢◌, length, get_or, codes, decimal, sym, refl, ap, ◌∙◌, lit<}
 use Rattle.stream.specs.declared.Class.TheVariants.{Critical}
 use Rattle.stream.specs.declared.Row.{Row}
 use Rattle.text.specs.declared.line.Line.TheVariants.{Sporadic, Raster, Go}
-use Rattle.text.specs.Lines.{row_bytes, sporadic_bytes, phased_bytes, raster_bytes, moment_bytes, item_bytes, SmallRow, SmallPhased, Valid, LineForm}
+use Rattle.text.specs.Lines.{row_bytes, sporadic_bytes, phased_bytes, raster_bytes, item_bytes, SmallRow, SmallPhased, Valid, LineForm}
 use Rattle.text.specs.Reading.{closed}
 use Rattle.text.specs.Words.{Form, Exactly, Small, Leaves, numbered}
 use Rattle.text.proofs.Forms.{Then, leaves_same, leaves_first, leaves_second, leaves_by_first, leaves_here}
-use Rattle.text.proofs.Grammar.{RowForm, begins, zero_small, at_prefix, after_prefix}
+use Rattle.text.proofs.Grammar.{RowForm, begins_apart, zero_small, at_prefix, after_prefix}
 use Rattle.text.proofs.Numerals.{Field}
 use Rattle.text.proofs.Unique.{apart_row}
 
@@ -22,7 +22,7 @@ abbrev RasterForm : List ℕ → Type 0
 RasterForm = Form raster_bytes SmallPhased
 
 abbrev MomentForm : List ℕ → Type 0
-MomentForm = Form moment_bytes Small
+MomentForm = Form (numbered (codes "go ")) Small
 
 -- every form has a word
 some_row : Row
@@ -41,31 +41,20 @@ phased_joined w t =
 phased_parts : (w : List ℕ) → PhasedForm w → Then (RowForm (codes " ")) (Field (codes ")\n")) w
 phased_parts w (v, s, e) = record { front = row_bytes (codes " ") v.0; back = decimal v.1 ++ codes ")\n"; in_front = (v.0, s.0, refl); in_back = (v.1, s.1, refl); joined = e }
 
-leaves_phased : (s : List ℕ) (k : ℕ) → Leaves (Then (RowForm (codes " ")) (Field (codes ")\n"))) s k → Leaves PhasedForm s k
-leaves_phased s k l = leaves_same _ PhasedForm s k phased_joined phased_parts l
-
 pub at_sporadic : (s : List ℕ) (k : ℕ) → Leaves (Exactly (codes "S ")) s k → Leaves SporadicForm s k
 at_sporadic s k l = at_prefix (codes "S ") (row_bytes (codes ")\n")) SmallRow s k some_row some_small l
 
 pub at_raster : (s : List ℕ) (k : ℕ) → Leaves (Exactly (codes "R ")) s k → Leaves RasterForm s k
 at_raster s k l = at_prefix (codes "R ") phased_bytes SmallPhased s k (some_row, 0) (some_small, zero_small) l
 
-pub raster_row : (s t : List ℕ) (k : ℕ) → s ≡ codes "R " ++ t → Leaves (RowForm (codes " ")) t k → Leaves RasterForm s k
-raster_row s t k e l =
-    after_prefix (codes "R ") phased_bytes SmallPhased s t k e
-    (leaves_phased t k (leaves_first (RowForm (codes " ")) (Field (codes ")\n")) t k _ (apart_row 32 [] (lit< tt)) (0, zero_small, refl) l))
-
-pub raster_phase : (r : Row) (s t u : List ℕ) (k : ℕ) → s ≡ codes "R " ++ t → SmallRow r × (t ≡ row_bytes (codes " ") r ++ u) → Leaves (Field (codes ")\n")) u k → Leaves RasterForm s k
-raster_phase r s t u k e f l =
-    after_prefix (codes "R ") phased_bytes SmallPhased s t k e
-    (leaves_phased t k (leaves_second (RowForm (codes " ")) (Field (codes ")\n")) t (row_bytes (codes " ") r) u k (apart_row 32 [] (lit< tt)) (r, f.0, refl) f.1 l))
-
-pub raster_whole : (r : Row) (p : ℕ) (s t u z : List ℕ) → s ≡ codes "R " ++ t → t ≡ row_bytes (codes " ") r ++ u → u ≡ closed (codes ")\n") p ++ z → s ≡ raster_bytes (r, p) ++ z
-raster_whole r p s t u z e f g =
-    e ∙ ap (λ (x : List ℕ). codes "R " ++ x) (f ∙ ap (λ (x : List ℕ). row_bytes (codes " ") r ++ x) g ∙ sym (append_assoc (row_bytes (codes " ") r) (decimal p ++ codes ")\n") z))
+after_raster : (s t : List ℕ) (k : ℕ) → s ≡ codes "R " ++ t → Leaves (Then (RowForm (codes " ")) (Field (codes ")\n"))) t k → Leaves RasterForm s k
+after_raster s t k e l = after_prefix (codes "R ") phased_bytes SmallPhased s t k e (leaves_same _ PhasedForm t k phased_joined phased_parts l)
 
 pub at_numbered : (word s : List ℕ) (k : ℕ) → Leaves (Exactly word) s k → Leaves (Form (numbered word) Small) s k
 at_numbered word s k l = at_prefix word (closed (codes ")\n")) Small s k 0 zero_small l
+
+pub after_numbered : (word s t : List ℕ) (k : ℕ) → s ≡ word ++ t → Leaves (Field (codes ")\n")) t k → Leaves (Form (numbered word) Small) s k
+after_numbered word s t k e l = after_prefix word (closed (codes ")\n")) Small s t k e l
 
 -- ---- the line
 
@@ -79,34 +68,51 @@ after_open : (s t : List ℕ) (k : ℕ) → s ≡ codes "(" ++ t → Leaves Item
 after_open s t k e l = after_prefix (codes "(") item_bytes Valid s t k e l
 
 -- the first byte tells the kind
-only_sporadic : (w : List ℕ) → ItemForm w → get_or w 0 0 ≡ 83 → SporadicForm w
-only_sporadic w (Sporadic r, s, e) h = (r, s, e)
-only_sporadic w (Raster r p, s, e) h = let z : ◌≡◌ {A = ℕ} 82 83 = begins w 82 83 _ e h in let b : ⊥ = omega arith in absurd b
-only_sporadic w (Go m, s, e) h = let z : ◌≡◌ {A = ℕ} 103 83 = begins w 103 83 _ e h in let b : ⊥ = omega arith in absurd b
+module _ (s t : List ℕ) (k : ℕ) (e : s ≡ codes "(" ++ t) where
+  pub line_sporadic : get_or t 0 0 ≡ 83 → Leaves SporadicForm t k → Leaves LineForm s k
+  line_sporadic is l = after_open s t k e (leaves_by_first SporadicForm ItemForm t k (λ w r. (Sporadic r.0, r.1, r.2)) only l)
+    where
+      only : (w : List ℕ) → ItemForm w → get_or w 0 0 ≡ get_or t 0 0 → SporadicForm w
+      only w (Sporadic r, v, f) h = (r, v, f)
+      only w (Raster r p, v, f) h = begins_apart f (h ∙ is) refl
+      only w (Go m, v, f) h = begins_apart f (h ∙ is) refl
 
-only_raster : (w : List ℕ) → ItemForm w → get_or w 0 0 ≡ 82 → RasterForm w
-only_raster w (Sporadic r, s, e) h = let z : ◌≡◌ {A = ℕ} 83 82 = begins w 83 82 _ e h in let b : ⊥ = omega arith in absurd b
-only_raster w (Raster r p, s, e) h = ((r, p), s, e)
-only_raster w (Go m, s, e) h = let z : ◌≡◌ {A = ℕ} 103 82 = begins w 103 82 _ e h in let b : ⊥ = omega arith in absurd b
+  pub line_raster : get_or t 0 0 ≡ 82 → Leaves RasterForm t k → Leaves LineForm s k
+  line_raster is l = after_open s t k e (leaves_by_first RasterForm ItemForm t k (λ w r. (Raster r.0.0 r.0.1, r.1, r.2)) only l)
+    where
+      only : (w : List ℕ) → ItemForm w → get_or w 0 0 ≡ get_or t 0 0 → RasterForm w
+      only w (Sporadic r, v, f) h = begins_apart f (h ∙ is) refl
+      only w (Raster r p, v, f) h = ((r, p), v, f)
+      only w (Go m, v, f) h = begins_apart f (h ∙ is) refl
 
-only_moment : (w : List ℕ) → ItemForm w → get_or w 0 0 ≡ 103 → MomentForm w
-only_moment w (Sporadic r, s, e) h = let z : ◌≡◌ {A = ℕ} 83 103 = begins w 83 103 _ e h in let b : ⊥ = omega arith in absurd b
-only_moment w (Raster r p, s, e) h = let z : ◌≡◌ {A = ℕ} 82 103 = begins w 82 103 _ e h in let b : ⊥ = omega arith in absurd b
-only_moment w (Go m, s, e) h = (m, s, e)
+  pub line_moment : get_or t 0 0 ≡ 103 → Leaves MomentForm t k → Leaves LineForm s k
+  line_moment is l = after_open s t k e (leaves_by_first MomentForm ItemForm t k (λ w r. (Go r.0, r.1, r.2)) only l)
+    where
+      only : (w : List ℕ) → ItemForm w → get_or w 0 0 ≡ get_or t 0 0 → MomentForm w
+      only w (Sporadic r, v, f) h = begins_apart f (h ∙ is) refl
+      only w (Raster r p, v, f) h = begins_apart f (h ∙ is) refl
+      only w (Go m, v, f) h = (m, v, f)
 
-pub line_sporadic : (s t more : List ℕ) (k : ℕ) → s ≡ codes "(" ++ t → t ≡ 83 ∷ more → Leaves SporadicForm t k → Leaves LineForm s k
-line_sporadic s t more k e h l = after_open s t k e (leaves_by_first SporadicForm ItemForm t more k 83 h (λ w r. (Sporadic r.0, r.1, r.2)) only_sporadic l)
+  pub sporadic_row : {u : List ℕ} → get_or t 0 0 ≡ 83 → t ≡ codes "S " ++ u → Leaves (RowForm (codes ")\n")) u k → Leaves LineForm s k
+  sporadic_row {u} is f l = line_sporadic is (after_prefix (codes "S ") (row_bytes (codes ")\n")) SmallRow t u k f l)
 
-pub line_raster : (s t more : List ℕ) (k : ℕ) → s ≡ codes "(" ++ t → t ≡ 82 ∷ more → Leaves RasterForm t k → Leaves LineForm s k
-line_raster s t more k e h l = after_open s t k e (leaves_by_first RasterForm ItemForm t more k 82 h (λ w r. (Raster r.0.0 r.0.1, r.1, r.2)) only_raster l)
+  pub raster_row : {u : List ℕ} → get_or t 0 0 ≡ 82 → t ≡ codes "R " ++ u → Leaves (RowForm (codes " ")) u k → Leaves LineForm s k
+  raster_row {u} is f l = line_raster is (after_raster t u k f (leaves_first (RowForm (codes " ")) (Field (codes ")\n")) u k _ (apart_row 32 [] (lit< tt)) (0, zero_small, refl) l))
 
-pub line_moment : (s t more : List ℕ) (k : ℕ) → s ≡ codes "(" ++ t → t ≡ 103 ∷ more → Leaves MomentForm t k → Leaves LineForm s k
-line_moment s t more k e h l = after_open s t k e (leaves_by_first MomentForm ItemForm t more k 103 h (λ w r. (Go r.0, r.1, r.2)) only_moment l)
+  pub raster_phase : {u v : List ℕ} → get_or t 0 0 ≡ 82 → t ≡ codes "R " ++ u → (r : Row) → SmallRow r × (u ≡ row_bytes (codes " ") r ++ v) → Leaves (Field (codes ")\n")) v k → Leaves LineForm s k
+  raster_phase {u} {v} is f r g l =
+      line_raster is (after_raster t u k f (leaves_second (RowForm (codes " ")) (Field (codes ")\n")) u (row_bytes (codes " ") r) v k (apart_row 32 [] (lit< tt)) (r, g.0, refl) g.1 l))
 
-item_comes : (t : List ℕ) → ((more : List ℕ) → t ≡ 83 ∷ more → ⊥) → ((more : List ℕ) → t ≡ 82 ∷ more → ⊥) → ((more : List ℕ) → t ≡ 103 ∷ more → ⊥) → (c : ℕ) (more w : List ℕ) → t ≡ c ∷ more → ItemForm (c ∷ w) → ⊥
-item_comes t h r l c more w e (Sporadic q, s, p) = h more (cc)
-item_comes t h r l c more w e (Raster q o, s, p) = r more (cc)
-item_comes t h r l c more w e (Go m, s, p) = l more (cc)
+  pub moment_number : {u : List ℕ} → get_or t 0 0 ≡ 103 → t ≡ codes "go " ++ u → Leaves (Field (codes ")\n")) u k → Leaves LineForm s k
+  moment_number {u} is f l = line_moment is (after_numbered (codes "go ") t u k f l)
 
-pub line_kind : (s t : List ℕ) (k : ℕ) → s ≡ codes "(" ++ t → ((more : List ℕ) → t ≡ 83 ∷ more → ⊥) → ((more : List ℕ) → t ≡ 82 ∷ more → ⊥) → ((more : List ℕ) → t ≡ 103 ∷ more → ⊥) → k ≡ length t → Leaves LineForm s k
-line_kind s t k e h r l count = after_open s t k e (leaves_here ItemForm t k 103 _ (Go 0, zero_small, refl) (item_comes t h r l) count)
+  pub line_kind : get_or t 0 0 ≢ 83 → get_or t 0 0 ≢ 82 → get_or t 0 0 ≢ 103 → k ≡ length t → Leaves LineForm s k
+  line_kind sporadic raster moment count = after_open s t k e (leaves_here ItemForm t k 103 _ (Go 0, zero_small, refl) none count)
+    where
+      none : (w : List ℕ) → ItemForm w → get_or w 0 0 ≡ get_or t 0 0 → ⊥
+      none w (Sporadic r, v, f) h = sporadic (sym h ∙ ap (λ (x : List ℕ). get_or x 0 0) f)
+      none w (Raster r p, v, f) h = raster (sym h ∙ ap (λ (x : List ℕ). get_or x 0 0) f)
+      none w (Go m, v, f) h = moment (sym h ∙ ap (λ (x : List ℕ). get_or x 0 0) f)
+
+-- where each part of a line goes out of shape
+pub ruleset line_ends = (at_line, line_sporadic, at_sporadic, sporadic_row, line_raster, at_raster, raster_row, line_moment, at_numbered, moment_number, line_kind)

@@ -1,15 +1,18 @@
 -- Digits at the front of a text, the number that they write, and where a text leaves the form of a number.
 
-use Rattle.std.proofs.Common.{◌≡◌, ℕ, zero, suc, ◌+◌, ◌-◌, ◌*◌, ◌^◌, ◌<◌, ◌≤◌, ◌⊎◌, List, [], ◌∷◌, ◌++◌, length, get_or, take, drop, decimal, sym, refl, ap, ◌∙◌, subst, inl, inr, ⊎_elim, append_assoc, arith, lit<, length-append}
-use native.Mathlib.Nat.{pow-le-pow_right}
+use Rattle.std.proofs.Common.{◌≡◌, ℕ, zero, suc, ◌+◌, ◌-◌, ◌*◌, ◌^◌, ◌<◌, ◌≤◌, ◌⊎◌, ◌≢◌, min, true, false, List, [], ◌∷◌, ◌++◌, length, get_or, take, drop, decimal, sym, refl, ap, ◌∙◌, subst, inl, inr, ⊎_elim, append_assoc, add-zero, add-one, arith, lit<, lit≤, length-append}
 use Rattle.std.proofs.lemmas.Fmt.{digits_decimal, decimal-digits_value, decimal_digit, decimal_nonempty, first_decimal, length-decimal-le, decimal_injective}
-use Rattle.std.proofs.lemmas.Int.Digits.{digits_value-lt, digits_value_more}
-use Rattle.std.proofs.lemmas.List.{length-take-le, get_or-take, take-take, take-append-drop}
-use Rattle.std.proofs.lemmas.Str.Parse.{IsNumeralModel, numerals_by_value, tells_digits, digit_at, digit_from_value}
+use Rattle.std.proofs.lemmas.Int.Digits.{digits_more, digits_value_more}
+use Rattle.std.proofs.lemmas.List.{length-take-le, get_or_past, get_or-take, get_or-drop, take-append-drop}
+use Rattle.std.proofs.lemmas.Str.Parse.{IsNumeralModel, digits_value-take-le, digits_value_short, numerals_by_value, tells_digits, digit_at, digit_from_value}
 use Rattle.std.proofs.lemmas.Str.{digit_value_digit}
+use Rattle.std.proofs.lemmas.Bool.{cases_lt}
+use Rattle.std.proofs.lemmas.Bool.Decides.{nat_tests}
+use Rattle.std.proofs.lemmas.List.Sums.{prefix_len-le-length, prefix_len_passes, prefix_len_stops}
+use Rattle.std.specs.Float.Numeral.{digits_len}
 use Rattle.std.specs.Str.Parse.{AllDigits, digits_value}
 use Rattle.std.specs.Int.{IsInRange}
-use Rattle.std.specs.Char.{digit_value}
+use Rattle.std.specs.Char.{digit_value, is_ascii_digit}
 use Rattle.text.specs.Reading.{Numeral, Counted, closed}
 use Rattle.text.specs.Words.{Form, Exactly, Small, Leaves}
 use Rattle.text.proofs.Forms.{Apart, leaves_here}
@@ -20,76 +23,82 @@ Field close = Form (closed close) Small
 own : IsNumeralModel (AllDigits 10) (digits_value 10)
 own = numerals_by_value (AllDigits 10) tells_digits
 
-digits_take : (i : ℕ) (ds : List ℕ) → AllDigits 10 ds → AllDigits 10 (take i ds)
-digits_take zero ds h = tt
-digits_take (suc i) [] h = tt
-digits_take (suc i) (d ∷ ds) h = (h.0, digits_take i ds h.1)
+-- what is_ascii_digit says, as a fact
+is_digit : (c : ℕ) → is_ascii_digit c ≡ true → IsInRange 48 57 c
+is_digit c e = grind (arith, nat_tests)
 
--- before the last digit comes, the number has at most 12
-pub value_below : (text : List ℕ) (len i : ℕ) → Numeral text len → i < len → digits_value 10 (take i text) < 10 ^ 12
-value_below text len i n lt =
-    let front : AllDigits 10 (take i text) = subst (λ (x : List ℕ). AllDigits 10 x) (take-take i len text (omega arith)) (digits_take i (take len text) n.digits) in
-    let long : length (take i text) ≡ i = length-take-le i text (omega (arith, n.within)) in
-    let at : digits_value 10 (take i text) < 10 ^ i = subst (λ (x : ℕ). digits_value 10 (take i text) < 10 ^ x) long (digits_value-lt 10 (take i text) front) in
-    let few : i ≤ 12 = omega (arith, n.short) in
-    let most : 10 ^ i ≤ 10 ^ 12 = pow-le-pow_right (lit< tt) few in
-    omega arith
+not_digit : (c : ℕ) → is_ascii_digit c ≡ false → IsInRange 48 57 c → ⊥
+not_digit c e h = grind (arith, nat_tests)
 
-pub digit_inside : (text : List ℕ) (len i : ℕ) → Numeral text len → i < len → IsInRange 48 57 (get_or text i 0)
-digit_inside text len i n lt =
-    subst (λ (x : ℕ). IsInRange 48 57 x) (get_or-take len text i 0 lt) (digit_at (take len text) i n.digits (subst (λ (x : ℕ). i < x) (sym (length-take-le len text n.within)) lt))
+digits_front : (xs : List ℕ) (i : ℕ) → i ≤ digits_len xs → AllDigits 10 (take i xs)
+digits_front xs zero h = tt
+digits_front xs (suc i) h =
+    let lt : i < digits_len xs = omega arith in
+    let within : i < length xs = omega (arith, prefix_len-le-length is_ascii_digit xs) in
+    let value : digit_value (get_or xs i 0) + 48 ≡ get_or xs i 0 = digit_value_digit _ (is_digit _ (prefix_len_passes is_ascii_digit xs i 0 lt)) in
+    let digit : IsInRange 48 57 (get_or xs i 0) = is_digit _ (prefix_len_passes is_ascii_digit xs i 0 lt) in
+    subst (λ (n : ℕ). AllDigits 10 (take n xs)) (add-one i) (digits_more 10 xs i within (digits_front xs i (omega arith)) (omega (arith, value, digit)))
 
-pub value_step : (text : List ℕ) (len i : ℕ) → Numeral text len → i < len → digits_value 10 (take (i + 1) text) ≡ digits_value 10 (take i text) * 10 + (get_or text i 0 - 48)
-value_step text len i n lt =
-    let d : digit_value (get_or text i 0) + 48 ≡ get_or text i 0 = digit_value_digit (get_or text i 0) (digit_inside text len i n lt) in
-    let e = digits_value_more 10 text i (omega (arith, n.within)) in
-    omega (arith, d, e)
+-- as many digits as there are, up to the most that a number has
+module _ (text : List ℕ) (most len : ℕ) (is : len ≡ min (digits_len text) most) (kind : ((most ≡ 1) × (get_or text 0 0 ≡ 48)) ⊎ ((most ≡ 13) × (get_or text 0 0 ≢ 48))) where
+  full : IsInRange 48 57 (get_or text len 0) → (len ≡ 13) ⊎ ((len ≡ 1) × (get_or text 0 0 ≡ 48))
+  full digit = ⊎_elim (λ more. ⊎_elim (λ k. inr (omega (arith, k.0), k.1)) (λ k. inl (omega (arith, k.0))) kind) (λ none. absurd (over none)) (cases_lt len (digits_len text))
+    where
+      over : digits_len text ≤ len → ⊥
+      over none =
+          let last : len ≡ digits_len text = omega arith in
+          ⊎_elim
+          (λ (lt : len < length text). not_digit _ (rw last (prefix_len_stops is_ascii_digit text 0 (omega arith))) digit)
+          (λ (past : length text ≤ len). omega (arith, digit.0, get_or_past text len 0 past))
+          (cases_lt len (length text))
 
-value_zero : (text : List ℕ) (len : ℕ) → len ≤ 1 → get_or text 0 0 ≡ 48 → digits_value 10 (take len text) ≡ 0
-value_zero text zero h e = refl
-value_zero [] (suc len) h e = refl
-value_zero (d ∷ text) (suc zero) h e = ap (λ (x : ℕ). digits_value 10 (x ∷ [])) e
-value_zero (d ∷ text) (suc (suc len)) h e = let z : ⊥ = omega arith in absurd z
+  numeral : Numeral text len
+  numeral = record {
+    within = omega (arith, prefix_len-le-length is_ascii_digit text);
+    short = ⊎_elim (λ k. omega (arith, k.0)) (λ k. omega (arith, k.0)) kind;
+    digits = digits_front text len (omega arith);
+    lone = λ h. ⊎_elim (λ k. omega (arith, k.0)) (λ k. absurd (k.1 h)) kind;
+    full = full;
+  }
 
-length_front : (text : List ℕ) (len : ℕ) → Numeral text len → length (take len text) ≡ len
-length_front text len n = length-take-le len text n.within
+pub numeral_alone : (text : List ℕ) → get_or text 0 0 ≡ 48 → Numeral text (min (digits_len text) 1)
+numeral_alone text first = numeral text 1 _ refl (inl (refl, first))
 
-value_small : (text : List ℕ) (len : ℕ) → Numeral text len → Small (digits_value 10 (take len text))
-value_small text len n =
-    let at : digits_value 10 (take len text) < 10 ^ len = subst (λ (x : ℕ). digits_value 10 (take len text) < 10 ^ x) (length_front text len n) (digits_value-lt 10 (take len text) n.digits) in
-    let most : 10 ^ len ≤ 10 ^ 13 = pow-le-pow_right (lit< tt) n.short in
-    omega arith
+pub numeral_long : (text : List ℕ) → get_or text 0 0 ≢ 48 → Numeral text (min (digits_len text) 13)
+numeral_long text first = numeral text 13 _ refl (inr (refl, first))
 
--- the digits at the front are what is written of their value
-decimal_front : (text : List ℕ) (len : ℕ) → Numeral text len → 0 < len → decimal (digits_value 10 (take len text)) ≡ take len text
-decimal_front text len n some =
-    decimal-digits_value own (take len text) n.digits (omega (arith, length_front text len n))
-    (λ e. let f : len ≤ 1 = n.lone (sym (get_or-take len text 0 0 some) ∙ e) in omega (arith, length_front text len n))
-    (omega (arith, value_small text len n))
+-- one digit more, and what it makes of the number so far
+pub value_step : (ds : List ℕ) (i : ℕ) → AllDigits 10 ds → length ds ≤ 13 → i < length ds → (digits_value 10 (take i ds) < 10 ^ 12) × (digits_value 10 (take (i + 1) ds) ≡ digits_value 10 (take i ds) * 10 + (get_or ds i 0 - 48)) × IsInRange 48 57 (get_or ds i 0)
+value_step ds i digits short lt =
+    let digit = digit_at ds i digits lt in
+    let d = digit_value_digit (get_or ds i 0) digit in
+    let e = digits_value_more 10 ds i lt in
+    let fits : digits_value 10 (take (i + 1) ds) < 10 ^ 13 = omega (arith, digits_value-take-le 10 ds (i + 1) (lit≤ tt), digits_value_short own ds 13 digits short) in
+    (omega (arith, d, e, fits), omega (arith, d, e), digit)
 
-head_of_drop : (len : ℕ) (text : List ℕ) (c : ℕ) (more : List ℕ) → drop len text ≡ c ∷ more → (len < length text) × (get_or text len 0 ≡ c)
-head_of_drop zero [] c more e = let z : ◌≡◌ {A = ℕ} 0 1 = omega (arith, ap length e) in let b : ⊥ = omega arith in absurd b
-head_of_drop zero (d ∷ text) c more e = (omega arith, cc)
-head_of_drop (suc len) [] c more e = let b : ⊥ = omega (arith, ap length e) in absurd b
-head_of_drop (suc len) (d ∷ text) c more e = let r = head_of_drop len text c more e in (omega (arith, r.0), r.1)
+-- the digits at the front that are one number are what is written of their value
+module _ (text : List ℕ) (len : ℕ) (num : Numeral text len) where
+  front_len : length (take len text) ≡ len
+  front_len = length-take-le len text num.within
 
-pub counted : (text : List ℕ) (len n : ℕ) (rest : List ℕ) → Numeral text len → (len ≡ 0 → ⊥) → n ≡ digits_value 10 (take len text) → rest ≡ drop len text → Counted text n rest
-counted text len n rest num some e r =
-    let pos : 0 < len = omega arith in
-    let written : decimal n ≡ take len text = ap decimal e ∙ decimal_front text len num pos in
-    record {
-      whole = sym (take-append-drop len text) ∙ ap (λ (x : List ℕ). x ++ drop len text) (sym written) ∙ ap (λ (x : List ℕ). decimal n ++ x) (sym r);
-      small = subst Small (sym e) (value_small text len num);
-      full = λ c more h digit.
-          let at = head_of_drop len text c more (sym r ∙ h) in
-          ⊎_elim (λ k. inr (ap length written ∙ length_front text len num ∙ k)) (λ k. inl (e ∙ value_zero text len (omega (arith, k.0)) k.1))
-          (num.full at.0 (subst (λ (x : ℕ). IsInRange 48 57 x) (sym at.1) digit));
-    }
+  value_small : Small (digits_value 10 (take len text))
+  value_small = digits_value_short own (take len text) 13 num.digits (omega (arith, front_len, num.short))
 
-pub no_digit : (text : List ℕ) → Numeral text 0 → (c : ℕ) (more : List ℕ) → text ≡ c ∷ more → IsInRange 48 57 c → ⊥
-no_digit text num c more e digit =
-    let at = head_of_drop 0 text c more e in
-    ⊎_elim (λ k. let z : ⊥ = omega (arith, k) in z) (λ k. let z : ⊥ = omega (arith, k.0) in z) (num.full at.0 (subst (λ (x : ℕ). IsInRange 48 57 x) (sym at.1) digit))
+  value_zero : (len ≡ 1) × (get_or text 0 0 ≡ 48) → digits_value 10 (take len text) ≡ 0
+  value_zero k = omega (arith, ap (λ (n : ℕ). digits_value 10 (take n text)) k.0, digits_value_more 10 text 0 (omega (arith, k.0, num.within)), ap digit_value k.1)
+
+  written : 0 < len → decimal (digits_value 10 (take len text)) ≡ take len text
+  written some =
+      decimal-digits_value own (take len text) num.digits (omega (arith, front_len))
+      (λ e. let one : len ≤ 1 = num.lone (sym (get_or-take len text 0 0 some) ∙ e) in omega (arith, front_len))
+      (omega (arith, value_small))
+
+  pub counted : 0 < len → Counted text (digits_value 10 (take len text)) (drop len text)
+  counted some = record {
+    whole = rw (written some) (sym (take-append-drop len text));
+    small = value_small;
+    full = λ digit. ⊎_elim (λ k. inr (ap length (written some) ∙ front_len ∙ k)) (λ k. inl (value_zero k)) (num.full (rw (get_or-drop, add-zero) at digit));
+  }
 
 -- two runs of digits that begin one text: they end together, or one goes on where the other ends
 split : (ds es : List ℕ) (k h : ℕ) (x y : List ℕ) → AllDigits 10 ds → AllDigits 10 es → k < 48 → ds ++ k ∷ x ≡ es ++ h ∷ y → ((ds ≡ es) × (k ∷ x ≡ h ∷ y)) ⊎ ((q : List ℕ) × (ds ≡ es ++ h ∷ q))
@@ -178,23 +187,20 @@ leaves_closing close s t n left low num l =
             let next : t ≡ g.0 ∷ g.2 = l.whole ∙ ap (λ (x : List ℕ). r ++ x) e ∙ g.4 in
             ⊎_elim (λ a. l.halts.dead c more w e (g.3 ∙ sym a.1 ∙ sym k.2))
             (λ b. let digit : IsInRange 48 57 g.0 = digit_after (decimal n) g.0 b.0 (subst (λ (x : List ℕ). AllDigits 10 x) b.1 (digits_of m.0 m.1)) in
-            not_longer m.0 n g.0 b.0 m.1 (num.full g.0 g.2 next digit) b.1)
+            not_longer m.0 n g.0 b.0 m.1 (num.full (subst (λ (x : ℕ). IsInRange 48 57 x) (ap (λ (x : List ℕ). get_or x 0 0) (sym next)) digit)) b.1)
             (split (decimal m.0) (decimal n) k.0 g.0 k.1 g.1 (digits_of m.0 m.1) (digits_of n num.small) k.3 whole);
       };
     }
 
-first_digit : (n : ℕ) → Small n → (c : ℕ) (w x : List ℕ) → c ∷ w ≡ decimal n ++ x → IsInRange 48 57 c
-first_digit n s c w x e = by (decimal n) (digits_of n s) (decimal_nonempty n (fits n s)) e
+first_digit : (n : ℕ) → Small n → (w x : List ℕ) → w ≡ decimal n ++ x → IsInRange 48 57 (get_or w 0 0)
+first_digit n s w x e = subst (λ (v : List ℕ). IsInRange 48 57 (get_or v 0 0)) (sym e) (by (decimal n) (digits_of n s) (decimal_nonempty n (fits n s)))
   where
-    by : (ds : List ℕ) → AllDigits 10 ds → 0 < length ds → c ∷ w ≡ ds ++ x → IsInRange 48 57 c
-    by [] p some h = let z : ⊥ = omega arith in absurd z
-    by (d ∷ ds) p some h = let same : d ≡ c = cc in subst (λ (v : ℕ). IsInRange 48 57 v) same (digit_from_value d p.0)
+    by : (ds : List ℕ) → AllDigits 10 ds → 0 < length ds → IsInRange 48 57 (get_or (ds ++ x) 0 0)
+    by [] p some = let z : ⊥ = omega arith in absurd z
+    by (d ∷ ds) p some = digit_from_value d p.0
 
 -- no digit where a number is due
-pub leaves_number : (close s : List ℕ) (left : ℕ) → ((c : ℕ) (more : List ℕ) → s ≡ c ∷ more → IsInRange 48 57 c → ⊥) → left ≡ length s → Leaves (Field close) s left
+pub leaves_number : (close s : List ℕ) (left : ℕ) → (IsInRange 48 57 (get_or s 0 0) → ⊥) → left ≡ length s → Leaves (Field close) s left
 leaves_number close s left none count =
     leaves_here (Field close) s left 48 close (0, lit< tt, ap (λ (w : List ℕ). w ++ close) (sym (decimal_digit 0 (lit< tt))))
-    (λ c more w e m. none c more e (first_digit m.0 m.1 c w close m.2)) count
-
-pub closes : (close s t z : List ℕ) (n : ℕ) → Counted s n t → t ≡ close ++ z → Small n × (s ≡ closed close n ++ z)
-closes close s t z n num e = (num.small, num.whole ∙ ap (λ (w : List ℕ). decimal n ++ w) e ∙ sym (append_assoc (decimal n) close z))
+    (λ w m h. none (subst (λ (x : ℕ). IsInRange 48 57 x) h (first_digit m.0 m.1 w close m.2))) count

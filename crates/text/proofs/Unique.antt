@@ -1,6 +1,6 @@
 -- A text begins with at most one line.
 
-use Rattle.std.proofs.Common.{◌≡◌, ℕ, ◌<◌, List, [], ◌∷◌, ◌++◌, codes, decimal, sym, ap, ◌∙◌, append_assoc, arith, lit<}
+use Rattle.std.proofs.Common.{◌≡◌, ℕ, ◌<◌, List, [], ◌∷◌, ◌++◌, codes, decimal, sym, refl, ap, ◌∙◌, append_assoc, lit<}
 use Rattle.stream.specs.declared.Row.{Row}
 use Rattle.text.specs.declared.line.Line.{Line}
 use Rattle.text.specs.declared.line.Line.TheVariants.{Sporadic, Raster, Go}
@@ -8,7 +8,7 @@ use Rattle.text.specs.Lines.{class_letter, row_bytes, phased_bytes, render, Smal
 use Rattle.text.specs.Words.{Small}
 use Rattle.std.proofs.lemmas.List.{append_cancel_left}
 use Rattle.text.proofs.Forms.{Apart, apart_form}
-use Rattle.text.proofs.Grammar.{RowForm, same_class}
+use Rattle.text.proofs.Grammar.{RowForm, differ, same_class}
 use Rattle.text.proofs.Numerals.{same_number}
 
 -- what follows the first byte that closes a row, taken off number by number
@@ -71,9 +71,9 @@ same_line (Raster r p) (Raster q o) x y s t e =
 same_line (Go m) (Go n) x y s t e =
     let tails : (decimal m ++ codes ")\n") ++ x ≡ (decimal n ++ codes ")\n") ++ y = cc in
     ap (λ (z : ℕ). Go z) (same_moment m n x y s t tails)
-same_line (Sporadic r) (Raster q o) x y s t e = let z : ◌≡◌ {A = ℕ} 83 82 = cc in let b : ⊥ = omega arith in absurd b
-same_line (Sporadic r) (Go n) x y s t e = let z : ◌≡◌ {A = ℕ} 83 103 = cc in let b : ⊥ = omega arith in absurd b
-same_line (Raster r p) (Sporadic q) x y s t e = let z : ◌≡◌ {A = ℕ} 82 83 = cc in let b : ⊥ = omega arith in absurd b
-same_line (Raster r p) (Go n) x y s t e = let z : ◌≡◌ {A = ℕ} 82 103 = cc in let b : ⊥ = omega arith in absurd b
-same_line (Go n) (Sporadic r) x y s t e = let z : ◌≡◌ {A = ℕ} 103 83 = cc in let b : ⊥ = omega arith in absurd b
-same_line (Go n) (Raster q o) x y s t e = let z : ◌≡◌ {A = ℕ} 103 82 = cc in let b : ⊥ = omega arith in absurd b
+same_line (Sporadic r) (Raster q o) x y s t e = differ 1 e refl
+same_line (Sporadic r) (Go n) x y s t e = differ 1 e refl
+same_line (Raster r p) (Sporadic q) x y s t e = differ 1 e refl
+same_line (Raster r p) (Go n) x y s t e = differ 1 e refl
+same_line (Go n) (Sporadic r) x y s t e = differ 1 e refl
+same_line (Go n) (Raster q o) x y s t e = differ 1 e refl

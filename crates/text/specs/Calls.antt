@@ -1,14 +1,13 @@
 -- The lines of a script after its go line, and their bytes.
 
-use Rattle.std.specs.Prelude.{ℕ, Bool, true, false, List, ◌++◌, codes}
+use Rattle.std.specs.Prelude.{ℕ, Bool, List, ◌++◌, codes}
 use Rattle.text.specs.declared.call.Call.{Call}
 use Rattle.text.specs.declared.call.Call.TheVariants.{Release, Turn, Calm}
-use Rattle.text.specs.Words.{Form, Small, numbered}
+use Rattle.text.specs.Words.{Form, Small, one_of, numbered}
 
 -- Whether a job is done.
 abbrev pub report_bytes : Bool → List ℕ
-report_bytes true = codes "yes)\n"
-report_bytes false = codes "no)\n"
+report_bytes = one_of (codes "yes)\n") (codes "no)\n")
 
 -- (turn yes), after its first bracket
 abbrev pub turn_bytes : Bool → List ℕ

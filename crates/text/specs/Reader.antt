@@ -3,7 +3,6 @@
 use Rattle.std.specs.Prelude.{◌≡◌, ℕ, ◌+◌, List, ◌++◌, length, Ok, Result}
 use Rattle.stream.specs.declared.Fault.{Fault}
 use Rattle.text.specs.declared.call.Call.{Call}
-use Rattle.text.specs.declared.cursor.Origin.{Origin}
 use Rattle.text.specs.declared.line.Line.{Line}
 use Rattle.text.specs.declared.reader.Reader.{Reader}
 use Rattle.text.specs.Calls.{call_bytes, ValidCall, CallForm}
@@ -18,10 +17,6 @@ bytes_left r = r.rest.now
 -- The number of the line that comes next, from 1.
 abbrev pub line_number : Reader → ℕ
 line_number r = r.line
-
--- The line that comes next, as a place to count its bytes from.
-abbrev pub next_origin : Reader → Origin
-next_origin r = record { line = line_number r; past = length (bytes_left r) + 1 }
 
 -- A good value was read by its bytes, a line with its newline.
 pub record ReadBy {V : Type 0} (bytes : V → List ℕ) (Good : V → Type 0) (before : Reader) (value : V) (after : Reader) : Type 0 where
@@ -39,7 +34,7 @@ pub record RefusedBy (form : List ℕ → Type 0) (before : Reader) (fault : Fau
   pub halts : Halts form read unread
 
 -- Every text that begins with the bytes of a good value is read as that value.
-abbrev pub AllRead : {V : Type 0} → (V → List ℕ) → (V → Type 0) → List ℕ → Result V Fault → Type 0
+abbrev pub AllRead : {V E : Type 0} → (V → List ℕ) → (V → Type 0) → List ℕ → Result V E → Type 0
 AllRead {V} bytes Good text answer = (value : V) (more : List ℕ) → Good value → text ≡ bytes value ++ more → answer ≡ Ok value
 
 abbrev pub LineRead : Reader → Line → Reader → Type 0

@@ -1,6 +1,6 @@
 -- A form of text is the set of its words, as bytes; and a text, read from its start, can leave a form.
 
-use Rattle.std.specs.Prelude.{◌≡◌, ℕ, ◌^◌, ◌<◌, List, ◌∷◌, ◌++◌, length, codes, decimal}
+use Rattle.std.specs.Prelude.{◌≡◌, ℕ, ◌^◌, ◌<◌, Bool, true, false, List, ◌∷◌, ◌++◌, length, codes, decimal}
 
 -- The words are the bytes of the good values.
 abbrev pub Form : {V : Type 0} → (V → List ℕ) → (V → Type 0) → List ℕ → Type 0
@@ -30,3 +30,8 @@ Small n = n < 10 ^ 13
 -- A word and a number, to the end of their line.
 abbrev pub numbered : List ℕ → ℕ → List ℕ
 numbered word n = word ++ (decimal n ++ codes ")\n")
+
+-- One of two words.
+abbrev pub one_of : List ℕ → List ℕ → Bool → List ℕ
+one_of one other true = one
+one_of one other false = other

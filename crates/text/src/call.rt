@@ -1,6 +1,6 @@
 // What a line of a script says, after the go line.
 
-#[derive(Clone, Copy)]
+#[derive(Clone, Copy, PartialEq, Eq, Debug)]
 pub enum Call {
     // a job of this stream is released
     Release(u64),

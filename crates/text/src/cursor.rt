@@ -1,12 +1,11 @@
 // Reading the parts of a line, byte by byte.
 
-ghost use Rattle.std.specs.Prelude.{◌≡◌, ℕ, ◌<◌, List, [], ◌∷◌, ◌++◌, length, take, MatchResult, ◌≢◌, slice_index_or};
-ghost use Rattle.std.specs.Str.Parse.{digits_value};
+ghost use Rattle.std.specs.Prelude.{◌≡◌, ℕ, ◌<◌, ◌≤◌, List, [], ◌∷◌, ◌++◌, length, MatchResult, ◌≢◌, slice_index_or};
+ghost use Rattle.std.specs.Str.Parse.{AllDigits, digits_value};
+ghost use Rattle.std.specs.Float.Numeral.{digits_len};
 ghost use Rattle.std.specs.Int.{IsInRange};
-ghost use Rattle.text.specs.Reading.{ahead, closed, misfit_at, Reads, Strays, Numeral, Counted};
-ghost use Rattle.text.specs.Words.{Exactly, Small, numbered};
-
-use stream::{Fault, Layer, Refusal};
+ghost use Rattle.text.specs.Reading.{ahead, closed, Reads, Strays, Numeral, Counted};
+ghost use Rattle.text.specs.Words.{Exactly, Small, one_of};
 
 mod calls;
 mod lines;
@@ -20,114 +19,108 @@ pub struct Cursor<'a> {
     pub rest: &'a [u8],
 }
 
-// The line that is being read: its number, and one more than the bytes of the text from its start on.
-#[derive(Clone, Copy)]
-pub struct Origin {
-    pub line: u64,
-    pub past: usize,
+// Where a text goes out of shape: so many bytes are left there.
+#[derive(Clone, Copy, PartialEq, Eq, Debug)]
+pub struct Misfit {
+    pub left: usize,
+}
+
+// The first byte, or 0 where there is none.
+fn head(text: &[u8]) -> char
+    ensures { result ≡ slice_index_or text.now 0 0 }
+{
+    char::from(text.first().copied().unwrap_or(0))
+}
+
+// How many digits stand at the front of the text.
+fn digits_len(text: &[u8]) -> usize
+    ensures { result ≡ digits_len text.now }
+{
+    text.iter().take_while(|b| b.is_ascii_digit()).count()
 }
 
 // How many digits at the front of the text are one number: 0 stands alone.
+#[tactic(auto, using(crate::proofs::Numerals::numeral_alone, crate::proofs::Numerals::numeral_long))]
 fn numeral_len(text: &[u8]) -> usize
     ensures { Numeral text.now result }
 {
-    let most = match text {
-        [b'0', ..] => 1,
-        _ => MOST_DIGITS,
-    };
-    for i in 0..most {
-        if i >= text.len() || !text[i].is_ascii_digit() {
-            return i;
-        }
-    }
-    most
+    let most = if head(text) == '0' { 1 } else { MOST_DIGITS };
+    digits_len(text).min(most)
 }
 
-// The number that the first `len` digits of the text are.
-fn numeral_value(text: &[u8], len: usize) -> u64
-    requires { Numeral text.now len }
-    ensures { result ≡ digits_value 10 (take len text.now) }
+// The number that digits write.
+#[tactic(auto, using(crate::proofs::Numerals::value_step))]
+fn digits_value(digits: &[u8]) -> u64
+    requires digits { AllDigits 10 digits.now }
+    requires short { length digits.now ≤ 13 }
+    ensures { result ≡ digits_value 10 digits.now }
 {
     let mut value = 0;
-    for i in 0..len {
-        value = value * 10 + u64::from(text[i] - b'0');
+    for digit in digits {
+        value = value * 10 + u64::from(digit - b'0');
     }
     value
 }
 
 impl<'a> Cursor<'a> {
     // Out of shape at the next byte.
-    fn misfit(&self, origin: Origin) -> Fault
-        ensures { result ≡ misfit_at origin (length (ahead self.now)) }
+    fn misfit(&self) -> Misfit
+        ensures { result.left ≡ length (ahead self.now) }
     {
-        Fault {
-            refusal: Refusal::OutOfShape,
-            layer: Layer::Text,
-            line: origin.line,
-            byte: origin.past.saturating_sub(self.rest.len()) as u64,
+        Misfit {
+            left: self.rest.len(),
         }
     }
 
-    // The next byte, which stays.
-    fn peek(&self, origin: Origin) -> Result<char, Fault>
-        ensures { MatchResult result (λ c. (more : List ℕ) × (ahead self.now ≡ c ∷ more)) (λ e. (ahead self.now ≡ []) × (e ≡ misfit_at origin (length (ahead self.now)))) }
+    // Byte by byte, since a misfit stands at the first that differs.
+    #[tactic(auto, using(crate::proofs::Forms::leaves_exactly))]
+    fn word(&mut self, word: &[u8]) -> Result<(), Misfit>
+        ensures { MatchResult result (λ _. ahead self.old ≡ word.now ++ ahead self.new) (λ e. Strays (Exactly word.now) (ahead self.old) e) }
     {
-        match self.rest {
-            [first, ..] => Ok(char::from(*first)),
-            [] => Err(self.misfit(origin)),
-        }
-    }
-
-    fn byte(&mut self, origin: Origin, byte: u8) -> Result<(), Fault>
-        ensures { MatchResult result (λ _. ahead self.old ≡ byte ∷ ahead self.new) (λ e. ((more : List ℕ) → ahead self.old ≢ byte ∷ more) × (e ≡ misfit_at origin (length (ahead self.old)))) }
-    {
-        match self.rest {
-            [first, rest @ ..] if *first == byte => {
-                self.rest = rest;
-                Ok(())
+        for due in word {
+            match self.rest {
+                [next, rest @ ..] if next == due => self.rest = rest,
+                _ => return Err(self.misfit()),
             }
-            _ => Err(self.misfit(origin)),
-        }
-    }
-
-    fn word(&mut self, origin: Origin, word: &[u8]) -> Result<(), Fault>
-        ensures { MatchResult result (λ _. ahead self.old ≡ word.now ++ ahead self.new) (λ e. Strays origin (Exactly word.now) (ahead self.old) e) }
-    {
-        for b in word {
-            self.byte(origin, *b)?;
         }
         Ok(())
     }
 
-    // A number, as many digits as can be its own.
-    fn digits(&mut self, origin: Origin) -> Result<u64, Fault>
-        ensures { MatchResult result (λ n. Counted (ahead self.old) n (ahead self.new)) (λ e. ((c : ℕ) (more : List ℕ) → ahead self.old ≡ c ∷ more → IsInRange 48 57 c → ⊥) × (e ≡ misfit_at origin (length (ahead self.old)))) }
+    // Whether one word comes, or else the other. They begin apart.
+    #[tactic(auto, using(crate::proofs::Grammar::leaves_other))]
+    fn either(&mut self, one: &[u8], other: &[u8]) -> Result<bool, Misfit>
+        requires { slice_index_or one.now 0 0 ≢ slice_index_or other.now 0 0 }
+        ensures { Reads (one_of one.now other.now) (λ _. Unit {0}) (ahead self.old) result (ahead self.new) }
     {
-        let text = self.rest;
-        let len = numeral_len(text);
-        if len == 0 {
-            return Err(self.misfit(origin));
+        if head(self.rest) == head(one) {
+            self.word(one)?;
+            Ok(true)
+        } else {
+            self.word(other)?;
+            Ok(false)
         }
-        let value = numeral_value(text, len);
-        self.rest = &text[len..];
-        Ok(value)
+    }
+
+    // A number, as many digits as can be its own.
+    fn digits(&mut self) -> Result<u64, Misfit>
+        ensures { MatchResult result (λ n. Counted (ahead self.old) n (ahead self.new)) (λ e. ¬ (IsInRange 48 57 (slice_index_or (ahead self.old) 0 0)) × (e.left ≡ length (ahead self.old))) }
+    {
+        let (digits, rest) = self.rest.split_at(numeral_len(self.rest));
+        if digits.is_empty() {
+            return Err(self.misfit());
+        }
+        self.rest = rest;
+        Ok(digits_value(digits))
     }
 
     // A number and the bytes that close it, the first of which is no digit.
-    fn number(&mut self, origin: Origin, close: &[u8]) -> Result<u64, Fault>
+    #[tactic(auto, using(crate::proofs::Numerals::leaves_closing, crate::proofs::Numerals::leaves_number))]
+    fn number(&mut self, close: &[u8]) -> Result<u64, Misfit>
         requires { slice_index_or close.now 0 48 < 48 }
-        ensures { Reads origin (closed close.now) Small (ahead self.old) result (ahead self.new) }
+        ensures { Reads (closed close.now) Small (ahead self.old) result (ahead self.new) }
     {
-        let value = self.digits(origin)?;
-        self.word(origin, close)?;
+        let value = self.digits()?;
+        self.word(close)?;
         Ok(value)
-    }
-
-    // A word and a number, to the end of their line.
-    fn numbered(&mut self, origin: Origin, word: &[u8]) -> Result<u64, Fault>
-        ensures { Reads origin (numbered word.now) Small (ahead self.old) result (ahead self.new) }
-    {
-        self.word(origin, word)?;
-        self.number(origin, b")\n")
     }
 }

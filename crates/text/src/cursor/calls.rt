@@ -1,50 +1,52 @@
 // Reading the lines of a script from their parts.
 
-ghost use Rattle.text.specs.Calls.{report_bytes, turn_bytes, call_bytes, ValidCall};
+ghost use Rattle.std.proofs.Common.{rules};
+ghost use Rattle.text.specs.Calls.{report_bytes, call_bytes, ValidCall};
 ghost use Rattle.text.specs.Reading.{ahead, Reads};
 
 use crate::call::Call;
-use crate::cursor::{Cursor, Origin};
-use stream::Fault;
+use crate::cursor::{Cursor, Misfit, head};
+use crate::from_line::FromLine;
 
 impl<'a> Cursor<'a> {
     // Whether a job is done, to the end of the line.
-    fn report(&mut self, origin: Origin) -> Result<bool, Fault>
-        ensures { Reads origin report_bytes (λ _. Unit {0}) (ahead self.old) result (ahead self.new) }
+    fn report(&mut self) -> Result<bool, Misfit>
+        ensures { Reads report_bytes (λ _. Unit {0}) (ahead self.old) result (ahead self.new) }
     {
-        match self.peek(origin)? {
-            'y' => {
-                self.word(origin, b"yes)\n")?;
-                Ok(true)
-            }
-            'n' => {
-                self.word(origin, b"no)\n")?;
-                Ok(false)
-            }
-            _ => Err(self.misfit(origin)),
-        }
+        self.either(b"yes)\n", b"no)\n")
     }
 
-    // A turn and its report, after the first bracket of its line.
-    fn turn(&mut self, origin: Origin) -> Result<bool, Fault>
-        ensures { Reads origin turn_bytes (λ _. Unit {0}) (ahead self.old) result (ahead self.new) }
+    #[tactic(auto, using(crate::proofs::Calling::call_ends))]
+    fn call(&mut self) -> Result<Call, Misfit>
+        ensures { Reads call_bytes ValidCall (ahead self.old) result (ahead self.new) }
     {
-        self.word(origin, b"turn ")?;
-        self.report(origin)
-    }
-
-    pub fn call(&mut self, origin: Origin) -> Result<Call, Fault>
-        ensures { Reads origin call_bytes ValidCall (ahead self.old) result (ahead self.new) }
-    {
-        self.word(origin, b"(")?;
-        match self.peek(origin)? {
-            'r' => Ok(Call::Release(self.numbered(origin, b"release ")?)),
-            't' => Ok(Call::Turn(self.turn(origin)?)),
+        self.word(b"(")?;
+        match head(self.rest) {
+            'r' => {
+                self.word(b"release ")?;
+                Ok(Call::Release(self.number(b")\n")?))
+            }
+            't' => {
+                self.word(b"turn ")?;
+                Ok(Call::Turn(self.report()?))
+            }
             'c' => {
-                self.word(origin, b"calm)\n")?;
+                self.word(b"calm)\n")?;
                 Ok(Call::Calm)
             }
-            _ => Err(self.misfit(origin)),
+            _ => Err(self.misfit()),
         }
+    }
+}
+
+impl FromLine for Call {
+    ghost bytes = { call_bytes };
+
+    ghost valid = { ValidCall };
+
+    ghost some = { λ call. Prim.search rules };
+
+    fn from_line(cursor: &mut Cursor) -> Result<Call, Misfit> {
+        cursor.call()
     }
 }

@@ -1,42 +1,39 @@
 // Reading whole lines from their parts.
 
 ghost use Rattle.std.specs.Prelude.{◌<◌, slice_index_or};
-ghost use Rattle.text.specs.Lines.{class_letter, row_bytes, sporadic_bytes, raster_bytes, render, SmallRow, SmallPhased, Valid};
+ghost use Rattle.std.proofs.Common.{rules};
+ghost use Rattle.text.specs.Lines.{class_letter, row_bytes, render, SmallRow, Valid};
 ghost use Rattle.text.specs.Reading.{ahead, Reads};
 
-use crate::cursor::{Cursor, Origin};
+use crate::cursor::{Cursor, Misfit, head};
+use crate::from_line::FromLine;
 use crate::line::Line;
-use stream::{Class, Fault, Row};
+use stream::{Class, Row};
 
 impl<'a> Cursor<'a> {
-    fn class(&mut self, origin: Origin) -> Result<Class, Fault>
-        ensures { Reads origin class_letter (λ _. Unit {0}) (ahead self.old) result (ahead self.new) }
+    #[tactic(auto, using(crate::proofs::Grammar::leaves_class))]
+    fn class(&mut self) -> Result<Class, Misfit>
+        ensures { Reads class_letter (λ _. Unit {0}) (ahead self.old) result (ahead self.new) }
     {
-        match self.peek(origin)? {
-            'H' => {
-                self.word(origin, b"H")?;
-                Ok(Class::Critical)
-            }
-            'L' => {
-                self.word(origin, b"L")?;
-                Ok(Class::Background)
-            }
-            _ => Err(self.misfit(origin)),
+        if self.either(b"H", b"L")? {
+            Ok(Class::Critical)
+        } else {
+            Ok(Class::Background)
         }
     }
 
     // A row, from its class letter to the bytes that close it, the first of which is no digit.
-    fn row(&mut self, origin: Origin, close: &[u8]) -> Result<Row, Fault>
+    fn row(&mut self, close: &[u8]) -> Result<Row, Misfit>
         requires { slice_index_or close.now 0 48 < 48 }
-        ensures { Reads origin (row_bytes close.now) SmallRow (ahead self.old) result (ahead self.new) }
+        ensures { Reads (row_bytes close.now) SmallRow (ahead self.old) result (ahead self.new) }
     {
-        let class = self.class(origin)?;
-        self.word(origin, b" (")?;
-        let budget = self.number(origin, b" ")?;
-        let certain = self.number(origin, b") (")?;
-        let short = self.number(origin, b" ")?;
-        let deadline = self.number(origin, b") ")?;
-        let gap = self.number(origin, close)?;
+        let class = self.class()?;
+        self.word(b" (")?;
+        let budget = self.number(b" ")?;
+        let certain = self.number(b") (")?;
+        let short = self.number(b" ")?;
+        let deadline = self.number(b") ")?;
+        let gap = self.number(close)?;
         Ok(Row {
             class,
             budget,
@@ -47,36 +44,39 @@ impl<'a> Cursor<'a> {
         })
     }
 
-    // A sporadic stream, after the first bracket of its line.
-    fn sporadic(&mut self, origin: Origin) -> Result<Row, Fault>
-        ensures { Reads origin sporadic_bytes SmallRow (ahead self.old) result (ahead self.new) }
+    #[tactic(auto, using(crate::proofs::Lining::line_ends))]
+    fn line(&mut self) -> Result<Line, Misfit>
+        ensures { Reads render Valid (ahead self.old) result (ahead self.new) }
     {
-        self.word(origin, b"S ")?;
-        self.row(origin, b")\n")
-    }
-
-    // A raster stream with its phase, after the first bracket of its line.
-    fn raster(&mut self, origin: Origin) -> Result<(Row, u64), Fault>
-        ensures { Reads origin raster_bytes SmallPhased (ahead self.old) result (ahead self.new) }
-    {
-        self.word(origin, b"R ")?;
-        let row = self.row(origin, b" ")?;
-        let phase = self.number(origin, b")\n")?;
-        Ok((row, phase))
-    }
-
-    pub fn line(&mut self, origin: Origin) -> Result<Line, Fault>
-        ensures { Reads origin render Valid (ahead self.old) result (ahead self.new) }
-    {
-        self.word(origin, b"(")?;
-        match self.peek(origin)? {
-            'S' => Ok(Line::Sporadic(self.sporadic(origin)?)),
+        self.word(b"(")?;
+        match head(self.rest) {
+            'S' => {
+                self.word(b"S ")?;
+                Ok(Line::Sporadic(self.row(b")\n")?))
+            }
             'R' => {
-                let (row, phase) = self.raster(origin)?;
+                self.word(b"R ")?;
+                let row = self.row(b" ")?;
+                let phase = self.number(b")\n")?;
                 Ok(Line::Raster(row, phase))
             }
-            'g' => Ok(Line::Go(self.numbered(origin, b"go ")?)),
-            _ => Err(self.misfit(origin)),
+            'g' => {
+                self.word(b"go ")?;
+                Ok(Line::Go(self.number(b")\n")?))
+            }
+            _ => Err(self.misfit()),
         }
+    }
+}
+
+impl FromLine for Line {
+    ghost bytes = { render };
+
+    ghost valid = { Valid };
+
+    ghost some = { λ line. Prim.search rules };
+
+    fn from_line(cursor: &mut Cursor) -> Result<Line, Misfit> {
+        cursor.line()
     }
 }

@@ -1,38 +1,29 @@
 // Reading a line, or refusing it.
 
-ghost use Rattle.std.specs.Prelude.{◌≡◌, ◌+◌, ◌<◌, ◌≢◌, [], length, MatchResult};
-ghost use Rattle.text.specs.Calls.{call_bytes, ValidCall};
-ghost use Rattle.text.specs.Lines.{render, Valid};
+ghost use Rattle.std.specs.Prelude.{◌≡◌, ◌+◌, ◌-◌, ◌<◌, ◌≤◌, ◌≢◌, [], length, MatchResult};
 ghost use Rattle.text.specs.Places.{out_of_shape};
-ghost use Rattle.text.specs.Reader.{bytes_left, line_number, next_origin, LineRead, LineRefused, CallRead, CallRefused, AllRead};
+ghost use Rattle.text.specs.Reader.{bytes_left, line_number, ReadBy, RefusedBy, AllRead};
+ghost use Rattle.text.specs.Words.{Form};
 
-use crate::call::Call;
-use crate::cursor::{Cursor, Origin};
-use crate::line::Line;
+use crate::cursor::{Cursor, Misfit};
+use crate::from_line::FromLine;
 use crate::reader::Reader;
 use stream::{Fault, Layer, Refusal};
 
 impl<'a> Reader<'a> {
-    // One line of a plan with its newline. Where the text is out of shape, the reader stays.
-    pub fn next_line(&mut self) -> Result<Line, Fault>
-        ensures answer { MatchResult result (λ line. LineRead self.old line self.new) (λ fault. LineRefused self.old fault self.new) }
-        ensures complete { AllRead render Valid (bytes_left self.old) result }
+    // One line of a form with its newline. Where the text is out of shape, the reader stays.
+    pub fn next<F: FromLine>(&mut self) -> Result<F, Fault>
+        ensures answer { MatchResult result (λ value. ReadBy F.bytes F.valid self.old value self.new) (λ fault. RefusedBy (Form F.bytes F.valid) self.old fault self.new) }
+        ensures complete { AllRead F.bytes F.valid (bytes_left self.old) result }
     {
         let mut cursor = Cursor { rest: self.rest };
-        let line = cursor.line(self.origin())?;
-        self.pass(cursor.rest);
-        Ok(line)
-    }
-
-    // The same for a line of a script after its go line.
-    pub fn next_call(&mut self) -> Result<Call, Fault>
-        ensures answer { MatchResult result (λ call. CallRead self.old call self.new) (λ fault. CallRefused self.old fault self.new) }
-        ensures complete { AllRead call_bytes ValidCall (bytes_left self.old) result }
-    {
-        let mut cursor = Cursor { rest: self.rest };
-        let call = cursor.call(self.origin())?;
-        self.pass(cursor.rest);
-        Ok(call)
+        match F::from_line(&mut cursor) {
+            Ok(value) => {
+                self.pass(cursor.rest);
+                Ok(value)
+            }
+            Err(misfit) => Err(self.misfit(misfit)),
+        }
     }
 
     // Refuses what is left of the text, if anything is.
@@ -57,13 +48,12 @@ impl<'a> Reader<'a> {
         }
     }
 
-    fn origin(&self) -> Origin
-        ensures { result ≡ next_origin self.now }
+    // Out of shape where the misfit says.
+    fn misfit(&self, misfit: Misfit) -> Fault
+        requires { misfit.left ≤ length (bytes_left self.now) }
+        ensures { result ≡ out_of_shape (line_number self.now) (length (bytes_left self.now) + 1 - misfit.left) }
     {
-        Origin {
-            line: self.line,
-            past: self.rest.len() + 1,
-        }
+        self.out_of_shape((self.rest.len() + 1 - misfit.left) as u64)
     }
 
     // Goes on behind a line that was read.

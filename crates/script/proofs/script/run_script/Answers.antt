@@ -6,12 +6,12 @@ use Rattle.script.proofs.Scripts.{script_finished, script_broken, script_called,
 use Rattle.script.proofs.script.run_script.Goals as goal
 
 pub loop-reader-smaller : goal.loop-reader-smaller
-loop-reader-smaller g c = call_shortens c.loop-reader.reader c.next_call.new.self c.in-Ok.call c.in-Ok.ensures.answer
+loop-reader-smaller g c = call_shortens c.loop-reader.reader c.next.new.self c.in-Ok.call c.in-Ok.ensures.answer
 
 pub loop-reader-preserved : goal.loop-reader-preserved
 loop-reader-preserved g c after rest =
     c.loop-reader.invariant after
-    (script_called g.B.Bank.kind c.loop-reader.reader c.next_call.new.self c.loop-reader.engine.bank c.loop-reader.engine.state (string_bytes c.loop-reader.answers.lines)
+    (script_called g.B.Bank.kind c.loop-reader.reader c.next.new.self c.loop-reader.engine.bank c.loop-reader.engine.state (string_bytes c.loop-reader.answers.lines)
     c.in-Ok.call c.line_number-line.result c.perform.result c.perform.new.engine.bank c.perform.new.engine.state (string_bytes c.tell.new.self.lines) after
     c.in-Ok.ensures.answer c.line_number-line.ensures c.perform.ensures c.in_ok-tell-in-Ok.ensures rest)
 
@@ -20,7 +20,7 @@ returns-in-Err g c =
     IfOk-weaker c.tell-in-Err.result _ _
     (λ x told.
     c.loop-reader.invariant (string_bytes c.tell-in-Err.new.self.lines)
-    (script_broken g.B.Bank.kind c.loop-reader.reader c.next_call.new.self c.loop-reader.engine.bank c.loop-reader.engine.state (string_bytes c.loop-reader.answers.lines)
+    (script_broken g.B.Bank.kind c.loop-reader.reader c.next.new.self c.loop-reader.engine.bank c.loop-reader.engine.state (string_bytes c.loop-reader.answers.lines)
     c.in-Err.fault (string_bytes c.tell-in-Err.new.self.lines) (eqb-false (length (bytes_left c.loop-reader.reader)) 0 (sym c.loop-reader-test.ensures)) c.in-Err.ensures.answer told))
     c.tell-in-Err.ensures
 

@@ -1,14 +1,8 @@
-use Rattle.std.proofs.Common.{ℕ, subst}
-use Rattle.std.proofs.lemmas.List.{take_rest}
-use Rattle.text.specs.Reading.{Numeral}
-use Rattle.text.proofs.Numerals.{counted, no_digit}
+use Rattle.std.proofs.Common.{◌<◌, rules}
+use Rattle.text.proofs.Numerals.{counted}
 use Rattle.text.proofs.cursor.Cursor.digits.Goals as goal
-
-pub returns-then-len-eq0 : goal.returns-then-len-eq0
-returns-then-len-eq0 c =
-    let none : Numeral c.args.self.now.rest.now 0 = subst (λ (n : ℕ). Numeral c.args.self.now.rest.now n) c.if-len-eq0.true c.numeral_len-len.ensures in
-    (no_digit c.args.self.now.rest.now none, c.misfit.ensures)
 
 pub returns : goal.returns
 returns c =
-    counted c.args.self.now.rest.now c.numeral_len-len.result _ _ c.numeral_len-len.ensures c.if-len-eq0.false c.numeral_value-value.ensures (take_rest c.args.self.now.rest.now c.numeral_len-len.result)
+    let some : 0 < c.numeral_len.result = search rules in
+    rw (c.split_at.ensures.back, c.digits_value.ensures, c.split_at.ensures.front) (counted c.args.self.now.rest.now c.numeral_len.result c.numeral_len.ensures some)

@@ -1,0 +1,20 @@
+// What a line of a text is read as.
+
+ghost use Rattle.std.specs.Prelude.{ℕ, ◌<◌, List, length};
+ghost use Rattle.text.specs.Reader.{AllRead};
+ghost use Rattle.text.specs.Reading.{ahead, Reads};
+
+use crate::cursor::{Cursor, Misfit};
+
+// A form of line: the bytes of its values, with their newline, and which values have a line. Nobody else can name a cursor, so the forms are those of this crate.
+pub trait FromLine: Sized {
+    ghost bytes: { Self → List ℕ };
+
+    ghost valid: { Self → Type 0 };
+
+    fn from_line(cursor: &mut Cursor) -> Result<Self, Misfit>
+        ensures answer { Reads bytes valid (ahead cursor.old) result (ahead cursor.new) }
+        ensures complete { AllRead bytes valid (ahead cursor.old) result };
+
+    ghost some: { (value : Self) → 0 < length (bytes value) };
+}
