@@ -1,0 +1,62 @@
+// Making a stream on a raster, and when it opens.
+
+ghost use Rattle.std.specs.Prelude.{◌≡◌, ◌≤◌, ◌<◌, Err, MatchResult};
+ghost use Rattle.stream.specs.declared.Refusal.TheVariants.{PhaseOutOfLimits};
+ghost use Rattle.table.specs.Phases.{Until, next_wait};
+ghost use Rattle.table.specs.WaitsLemmas.{turn_opens_no_more};
+
+use crate::moments::{first_wait, wait_after};
+use crate::phasing::OnRaster;
+use crate::timed::Timed;
+use stream::{Record, Refusal};
+
+impl OnRaster {
+    // The phase has to be below the gap.
+    pub(crate) fn new(stream: Record, phase: u64) -> Result<OnRaster, Refusal>
+        ensures { MatchResult result (λ s. (s.record ≡ stream) × (s.phase ≡ phase)) (λ e. (e ≡ PhaseOutOfLimits) × (stream.row.gap ≤ phase)) }
+    {
+        if phase >= stream.row().gap {
+            return Err(Refusal::PhaseOutOfLimits);
+        }
+        Ok(OnRaster {
+            record: stream,
+            phase,
+        })
+    }
+}
+
+// It opens at the moments with its phase.
+impl Timed for OnRaster {
+    ghost recorded = { λ s. s.record };
+
+    ghost first_wait = { λ moment s wait. Until moment s.record.row.gap s.phase wait };
+
+    ghost wait_after = { λ s wait. next_wait wait s.record.row.gap };
+
+    ghost alike = { λ s t. t.phase ≡ s.phase };
+
+    ghost LETTER = { 82 };
+
+    const LETTER: char = 'R';
+
+    ghost opens_no_more = { λ s wait m. turn_opens_no_more wait s.record.row.gap m s.record.within.0.0 };
+
+    fn record(&self) -> Record {
+        self.record
+    }
+
+    fn first_wait(&self, moment: u64) -> u64 {
+        first_wait(moment, self.record.row().gap, self.phase)
+    }
+
+    fn wait_after(&self, wait: u64) -> u64 {
+        wait_after(wait, self.record.row().gap)
+    }
+
+    fn with_record(&self, other: Record) -> OnRaster {
+        OnRaster {
+            record: other,
+            phase: self.phase,
+        }
+    }
+}
