@@ -49,6 +49,9 @@ sporadic_begins b c moment e = record {
   waits = λ i s is. (0, ap (λ xs. state_of xs i) e ∙ state_of_map opened (states_in b) i ∙ ap (option_map opened) is, refl);
 }
 
+pub raster_size : (b : Raster) → length (raster_states b) ≡ raster.streams b
+raster_size b = length-map (states_of b.table) unphased
+
 -- what is told of a raster is told of its states without their phases
 module _ (xs : List (State OnRaster)) where
   pub record_viewed : (i : ℕ) → record_of (λ s. s.record) xs i ≡ record_of (λ r. r) (map unphased xs) i
@@ -85,7 +88,7 @@ module _ (b c : Raster) where
   pub raster_begun : (moment : ℕ) → raster.begins b moment c → Aligned moment (phases_in b) (raster_states b) (raster_states c) × (phases_in c ≡ phases_in b)
   raster_begun moment begun = (
     record {
-      size = length-map (states_of c.table) unphased ∙ begun.size ∙ sym (length-map (states_of b.table) unphased);
+      size = raster_size c ∙ begun.size ∙ sym (raster_size b);
       waits = λ i s is.
           let before = states_of b.table in
           let was = phased_at before i s is in
@@ -113,7 +116,7 @@ module _ (b c : Raster) where
   pub raster_shortened : (factor : ℕ) → AllShortened (λ s. s.record) (λ s t. t.phase ≡ s.phase) factor (states_of b.table) (states_of c.table) → AllShortened (λ r. r) (λ r s. Unit {0}) factor (raster_states b) (raster_states c) × (phases_in c ≡ phases_in b)
   raster_shortened factor all = (
     record {
-      size = length-map (states_of c.table) unphased ∙ all.size ∙ sym (length-map (states_of b.table) unphased);
+      size = raster_size c ∙ all.size ∙ sym (raster_size b);
       each = λ i s is.
           let was = phased_at (states_of b.table) i s is in
           let t = all.each i was.0 was.1 in
