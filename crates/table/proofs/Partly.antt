@@ -14,13 +14,6 @@ pub record Partly {X : Type 0} (R : X → X → Type 0) (i : ℕ) (before later 
   pub done : (k : ℕ) (x : X) → k < i → slice_get before k ≡ Some x → (y : X) × (slice_get later k ≡ Some y) × R x y
   pub left : (k : ℕ) → i ≤ k → slice_get later k ≡ slice_get before k
 
-pub partly_none : {X : Type 0} (R : X → X → Type 0) (xs : List X) → Partly R 0 xs xs
-partly_none R xs = record {
-  size = refl;
-  done = λ k x below was. let z : ⊥ = omega arith in absurd z;
-  left = λ k from. refl;
-}
-
 pub partly_more : {X : Type 0} (R : X → X → Type 0) (i : ℕ) (xs ys : List X) (x y : X) → Partly R i xs ys → i < length ys → slice_get ys i ≡ Some x → R x y → Partly R (i + 1) xs (set ys i y)
 partly_more {X} R i xs ys x y part here is changed = record {
   size = length-set ys i y ∙ part.size;

@@ -14,22 +14,6 @@ use Rattle.table.specs.declared.shortening.Shortfall.TheVariants.{Factor, Stream
 use Rattle.table.proofs.Partly.{Partly, partly_all}
 use Rattle.table.specs.TablesLemmas.{none_not_some}
 
-thousandths_within : (deadline factor : ℕ) → factor ≤ 1000 → deadline * factor / 1000 ≤ deadline
-thousandths_within deadline factor h = let most : deadline * factor ≤ deadline * 1000 = mul-le-mul_left deadline h in omega arith
-
-pub shortened_fits : (factor : ℕ) (row : Row) → Within row → factor ≤ 1000 → row.budget ≤ (shortened factor row).short → Within (shortened factor row)
-shortened_fits factor row within h enough = (
-  within.0,
-  within.1,
-  within.2,
-  (
-    λ (critical : row.class ≡ Critical).
-        let is : short_at factor row.class row ≡ row.deadline * factor / 1000 = ap (λ class. short_at factor class row) critical in
-        (enough, omega (arith, thousandths_within row.deadline factor h)),
-    λ (background : row.class ≡ Background). ap (λ class. short_at factor class row) background ∙ within.3.1 background,
-  ),
-)
-
 module _ {S : Type 0} (recorded : S → Record) where
   -- the short deadline leaves room for the budget
   abbrev pub Enough : ℕ → S → Type 0

@@ -60,11 +60,3 @@ open_accepted k b c i r found free accepts = record {
   shut = λ r found shut. let z : ⊥ = omega arith in absurd z;
   taken = λ r found open_now. (refl, accepts);
 }
-
--- a bank over a table answers as the table does
-pub accepted_over : {B S : Type 0} (letter : ℕ) (recorded : S → Record) (table : B → Table S) (begins : B → ℕ → B → Type 0) (ticks : B → B → Type 0) (b c : B) (i : ℕ) (answer : Result (Unit {0}) Refusal) → (table c ≡ table b → c ≡ b) → Accepted (still recorded) (table b) i answer (table c) → Accepted (tabled letter recorded table begins ticks) b i answer c
-accepted_over letter recorded table begins ticks b c i answer same a = record {
-  absent = λ none. let refused = a.absent none in (refused.0, same refused.1);
-  shut = λ r found shut. let refused = a.shut r found shut in (refused.0, same refused.1);
-  taken = λ r found free. a.taken r found free;
-}

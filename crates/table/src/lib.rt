@@ -2,7 +2,6 @@
 
 #![tactic(auto)]
 
-mod moments;
 mod phasing;
 mod shared;
 mod shortening;

@@ -5,7 +5,6 @@ ghost use Rattle.stream.specs.declared.Refusal.TheVariants.{PhaseOutOfLimits};
 ghost use Rattle.table.specs.Phases.{Until, next_wait};
 ghost use Rattle.table.specs.WaitsLemmas.{turn_opens_no_more};
 
-use crate::moments::{first_wait, wait_after};
 use crate::phasing::OnRaster;
 use crate::timed::Timed;
 use stream::{Record, Refusal};
@@ -45,12 +44,20 @@ impl Timed for OnRaster {
         self.record
     }
 
+    // The remainder comes first, so that no moment is too late for it.
     fn first_wait(&self, moment: u64) -> u64 {
-        first_wait(moment, self.record.row().gap, self.phase)
+        let gap = self.record.row().gap;
+        let past = moment % gap;
+        if past <= self.phase {
+            self.phase - past
+        } else {
+            self.phase + gap - past
+        }
     }
 
+    // A moment of the raster is followed by the next one a gap later.
     fn wait_after(&self, wait: u64) -> u64 {
-        wait_after(wait, self.record.row().gap)
+        wait.checked_sub(1).unwrap_or(self.record.row().gap - 1)
     }
 
     fn with_record(&self, other: Record) -> OnRaster {
