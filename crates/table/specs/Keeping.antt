@@ -1,19 +1,16 @@
 -- What the acts on a table keep: its streams, so their ceilings.
 
-use Rattle.std.specs.Prelude.{◌≡◌, ℕ, ◌-◌, ◌<◌, List, map, length, Some, None, Ok, Option, Result, slice_set, refl}
+use Rattle.std.specs.Prelude.{◌≡◌, ℕ, ◌-◌, ◌<◌, List, map, length, Some, None, Ok, Option, slice_set, refl}
 use Rattle.std.proofs.Common.{arith, sym, ap, ◌∙◌}
 use Rattle.bank.specs.Accepting.{Accepted}
 use Rattle.bank.specs.Kinds.{Kind}
 use Rattle.std.proofs.lemmas.List.{length-map, length-set}
 use Rattle.std.specs.Option.{option_map}
 use Rattle.std.specs.List.{slice_get}
-use Rattle.stream.specs.declared.Refusal.{Refusal}
 use Rattle.stream.specs.declared.limits.Record.{Record}
-use Rattle.table.specs.Tabled.{tabled, still}
 use Rattle.table.specs.Tables.{state_of, record_of, amount, ceiling_of, waiting, ticked, closed, Closes, Rewaited}
 use Rattle.table.specs.Waits.{every}
 use Rattle.table.specs.declared.shared.State.{State}
-use Rattle.table.specs.declared.shared.Table.{Table}
 use Rattle.table.specs.TablesLemmas.{none_not_some, state_at, state_numbered, state_unnumbered, record_of_ticked, record_of_set}
 
 -- the same streams, as far as they are told of, however long each waits

@@ -1,16 +1,16 @@
 // The table that the banks of this crate share. It keeps no invariant, so that its methods may change one state at a time.
 
-ghost use Rattle.std.specs.Prelude.{◌≡◌, ◌<◌, ◌≤◌, [], ◌∷◌, ◌++◌, map, length, IfOk, Some, None, vec_capacity, slice_set};
+ghost use Rattle.std.specs.Prelude.{◌≡◌, ◌<◌, ◌≤◌, [], ◌∷◌, ◌++◌, map, length, position, IfOk, IfSome, Some, None, vec_capacity, slice_set};
 ghost use Rattle.bank.specs.Accepting.{Accepted};
 ghost use Rattle.bank.specs.Questions.{asked, counted, told};
 ghost use Rattle.std.specs.Option.{option_map};
 ghost use Rattle.std.specs.List.{slice_get};
 ghost use Rattle.std.specs.Result.{result_err};
-ghost use Rattle.table.specs.Shortening.{AllShortened, shortfall_of};
+ghost use Rattle.table.specs.Shortening.{AllShortened, shortfall_of, too_short};
 ghost use Rattle.table.specs.Tabled.{still};
 ghost use Rattle.table.specs.Tables.{Rewaited, SameSize, ceiling_of, fresh, opening_of, record_of, state_of, states_of, ticked, waiting};
 
-use crate::shortening::{Shortfall, shorten_record, shorten_row};
+use crate::shortening::{Shortfall, falls_short, shorten_record};
 use crate::timed::Timed;
 use bank::{Question, ask};
 use std::alloc::{AllocError, Global};
@@ -141,6 +141,19 @@ impl<S: Timed> Table<S> {
         }
     }
 
+    // The place of the first stream whose short deadline would be below its budget.
+    fn first_short(&self, factor: u64) -> Option<usize>
+        requires { factor ≤ 1000 }
+        ensures place { result ≡ position (λ s. too_short factor (S.recorded s.stream).row) (states_of self.now) }
+        ensures bound { IfSome result (λ at. at < length (states_of self.now)) }
+    {
+        self.states.iter().position(
+            |state| -> bool
+                requires { factor ≤ 1000 }
+            { falls_short(state.stream.record(), factor) },
+        )
+    }
+
     // Why the streams cannot be shortened by the factor, if they cannot.
     pub(crate) fn falls_short(&self, factor: u64) -> Result<(), Shortfall>
         ensures { result_err result ≡ shortfall_of S.recorded factor (states_of self.now) }
@@ -148,13 +161,10 @@ impl<S: Timed> Table<S> {
         if factor < 1 || factor > 1000 {
             return Err(Shortfall::Factor);
         }
-        for (at, state) in self.states.iter().enumerate() {
-            let row = state.stream.record().row();
-            if shorten_row(row, factor).short < row.budget {
-                return Err(Shortfall::Stream(at as u64 + 1));
-            }
+        match self.first_short(factor) {
+            Some(at) => Err(Shortfall::Stream(at as u64 + 1)),
+            None => Ok(()),
         }
-        Ok(())
     }
 
     pub(crate) fn shorten_all(&mut self, factor: u64)

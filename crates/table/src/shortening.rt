@@ -1,7 +1,7 @@
 // Shorter short deadlines for critical streams: an overrun then finds more slack.
 
 ghost use Rattle.std.specs.Prelude.{◌≡◌, ◌≤◌};
-ghost use Rattle.table.specs.Shortening.{refusal_of, shortened};
+ghost use Rattle.table.specs.Shortening.{refusal_of, shortened, too_short};
 
 use stream::{Class, Record, Refusal, Row};
 
@@ -35,6 +35,15 @@ pub(crate) fn shorten_row(row: Row, factor: u64) -> Row
         },
         Class::Background => row,
     }
+}
+
+// Whether the short deadline would be below the budget.
+pub(crate) fn falls_short(stream: Record, factor: u64) -> bool
+    requires { factor ≤ 1000 }
+    ensures { result ≡ too_short factor stream.row }
+{
+    let row = stream.row();
+    shorten_row(row, factor).short < row.budget
 }
 
 // A record whose short deadline would be below its budget stays as it is.

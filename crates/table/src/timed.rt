@@ -2,7 +2,6 @@
 
 ghost use Rattle.std.specs.Prelude.{◌≡◌, ℕ, ◌+◌, ◌≤◌};
 ghost use Rattle.stream.specs.declared.limits.Record.{Record as Rec};
-ghost use Rattle.table.specs.Shortening.{shortened};
 ghost use Rattle.table.specs.Waits.{after};
 
 use stream::Record;

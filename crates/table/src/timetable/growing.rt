@@ -4,7 +4,7 @@ ghost use Rattle.std.specs.Prelude.{◌≡◌, ◌≤◌, ◌<◌, [], length, I
 ghost use Rattle.stream.specs.declared.Refusal.TheVariants.{TooManyStreams};
 ghost use Rattle.table.specs.Growing.{Grown, GrownOn};
 ghost use Rattle.table.specs.Tables.{states_of};
-ghost use Rattle.table.specs.Shortening.{AllShortened, Shortening};
+ghost use Rattle.table.specs.Shortening.{Shortening};
 
 use crate::phasing::OnRaster;
 use crate::shared::{MOST, Table};
@@ -34,7 +34,7 @@ impl<S: Timed> Timetable<S> {
 
     // Gives every critical stream a short deadline of so many thousandths of its deadline, if none would be below its budget.
     pub fn shorten(&mut self, factor: u64) -> Result<(), Shortfall>
-        ensures { Shortening S.recorded S.alike factor (states_of self.old.table) result (self.new ≡ self.old) (states_of self.new.table) }
+        ensures { Shortening S.recorded S.alike factor self.old result self.new }
     {
         self.table.falls_short(factor)?;
         self.table.shorten_all(factor);

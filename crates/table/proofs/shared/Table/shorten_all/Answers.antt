@@ -18,7 +18,7 @@ loop-state-preserved g c =
     let here : i < length items = omega arith in
     let is : slice_get items i ≡ Some s = slice_get-get_or items i c.state-item.result here in
     let none : shortfall_of recorded factor before ≡ None = ap (shortfall_of recorded factor) c.deref_mut-state-items.ensures.value ∙ c.requires in
-    let enough : Enough recorded factor s.stream = none_falls_short recorded factor 1 before (no_shortfall recorded factor before none).1 i s (sym (part.left i (omega arith)) ∙ is) in
+    let enough : Enough recorded factor s.stream = none_falls_short recorded factor before (no_shortfall recorded factor before none).1 i s (sym (part.left i (omega arith)) ∙ is) in
     let row_is = ap (λ r. r.row) c.with_record-state.ensures.other ∙ c.shorten_record-record.ensures.row (rw c.record.ensures enough) ∙ ap (λ r. shortened factor r.row) c.record.ensures in
     partly_more (Shortens recorded g.S.Timed.alike factor) i before items s _ part here is (row_is, refl, c.with_record-state.ensures.alike)
 
