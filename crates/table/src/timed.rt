@@ -6,7 +6,7 @@ ghost use Rattle.table.specs.Waits.{after};
 
 use stream::Record;
 
-// A kind of streams by the times at which they open: how long one waits from a moment on, and how a wait goes on.
+// A kind of streams by when they open: how long one waits from a moment on, and what a tick leaves of a wait.
 pub trait Timed: Copy {
     // the record of a stream
     ghost recorded: { Self → Rec };
@@ -16,7 +16,7 @@ pub trait Timed: Copy {
 
     ghost wait_after: { Self → ℕ → ℕ };
 
-    // opens at the same times, but for its record
+    // the second is the first with another record
     ghost alike: { Self → Self → Type 0 };
 
     ghost LETTER: { ℕ };

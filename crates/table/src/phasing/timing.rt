@@ -1,6 +1,6 @@
 // Making a stream on a raster, and when it opens.
 
-ghost use Rattle.std.specs.Prelude.{◌≡◌, ◌≤◌, ◌<◌, Err, MatchResult};
+ghost use Rattle.std.specs.Prelude.{◌≡◌, ◌≤◌, MatchResult};
 ghost use Rattle.stream.specs.declared.Refusal.TheVariants.{PhaseOutOfLimits};
 ghost use Rattle.table.specs.Phases.{Until, next_wait};
 ghost use Rattle.table.specs.WaitsLemmas.{turn_opens_no_more};
