@@ -13,18 +13,15 @@ use Rattle.stream.specs.declared.Refusal.TheVariants.{PhaseOutOfLimits}
 use Rattle.stream.specs.declared.Row.{Row}
 use Rattle.stream.specs.declared.Verdict.{Verdict}
 use Rattle.stream.specs.declared.limits.Record.{Record}
-use Rattle.table.specs.Tables.{fresh}
+use Rattle.table.specs.Tables.{fresh, RecordState as State}
 use Rattle.demand.specs.Verdicts.{Decided}
 use Rattle.turns.specs.Steps.{Started}
 use Rattle.turns.specs.declared.State.{State as State'}
-use Rattle.table.specs.declared.shared.State.{State}
 use Rattle.join.specs.Joins.{joined}
 use Rattle.join.specs.declared.Joined.{Joined}
 use Rattle.table.specs.Growing.{Grown, GrownOn}
-use Rattle.table.specs.Rasters.{raster, raster_states, phases_in}
-use Rattle.table.specs.Sporadics.{sporadic, states_in}
-use Rattle.table.specs.declared.phasing.Raster.{Raster as Raster'}
-use Rattle.table.specs.declared.spacing.Sporadic.{Sporadic as Sporadic'}
+use Rattle.table.specs.Rasters.{raster, raster_states, phases_in, Raster as Raster'}
+use Rattle.table.specs.Sporadics.{sporadic, states_in, Sporadic as Sporadic'}
 use Rattle.text.specs.Lines.{render}
 use Rattle.text.specs.Places.{out_of_shape}
 use Rattle.text.specs.Reader.{bytes_left, line_number, LineRead, LineRefused}

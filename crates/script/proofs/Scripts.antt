@@ -7,10 +7,8 @@ use Rattle.stream.specs.declared.Verdict.{Verdict}
 use Rattle.bank.specs.Kinds.{Kind}
 use Rattle.join.specs.Joins.{joined}
 use Rattle.join.specs.declared.Joined.{Joined}
-use Rattle.table.specs.Rasters.{raster}
-use Rattle.table.specs.Sporadics.{sporadic}
-use Rattle.table.specs.declared.phasing.Raster.{Raster}
-use Rattle.table.specs.declared.spacing.Sporadic.{Sporadic}
+use Rattle.table.specs.Rasters.{raster, Raster}
+use Rattle.table.specs.Sporadics.{sporadic, Sporadic}
 use Rattle.engine.specs.Reports.{counts_of}
 use Rattle.turns.specs.declared.Counts.{Counts}
 use Rattle.turns.specs.declared.State.{State}

@@ -8,10 +8,8 @@ use Rattle.stream.specs.declared.Refusal.TheVariants.{OutOfShape}
 use Rattle.stream.specs.declared.Verdict.{Verdict}
 use Rattle.join.specs.Joins.{joined}
 use Rattle.join.specs.declared.Joined.{Joined}
-use Rattle.table.specs.Rasters.{raster}
-use Rattle.table.specs.Sporadics.{sporadic}
-use Rattle.table.specs.declared.phasing.Raster.{Raster}
-use Rattle.table.specs.declared.spacing.Sporadic.{Sporadic}
+use Rattle.table.specs.Rasters.{raster, Raster}
+use Rattle.table.specs.Sporadics.{sporadic, Sporadic}
 use Rattle.demand.specs.Verdicts.{Decided}
 use Rattle.script.specs.declared.plan.Start.{Start}
 use Rattle.script.specs.Plans.{Planned, Rows, no_rows, rows_in, tables_of}

@@ -5,10 +5,8 @@ use Rattle.stream.specs.declared.Fault.{Fault}
 use Rattle.stream.specs.declared.Verdict.{Verdict}
 use Rattle.join.specs.Joins.{joined}
 use Rattle.join.specs.declared.Joined.{Joined}
-use Rattle.table.specs.Rasters.{raster}
-use Rattle.table.specs.Sporadics.{sporadic}
-use Rattle.table.specs.declared.phasing.Raster.{Raster}
-use Rattle.table.specs.declared.spacing.Sporadic.{Sporadic}
+use Rattle.table.specs.Rasters.{raster, Raster}
+use Rattle.table.specs.Sporadics.{sporadic, Sporadic}
 use Rattle.text.specs.declared.answer.Answer.{Answer}
 use Rattle.text.specs.declared.answer.Answer.TheVariants.{Accepted, Refused}
 use Rattle.turns.specs.declared.State.{State}

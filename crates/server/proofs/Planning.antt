@@ -11,17 +11,15 @@ use Rattle.stream.specs.declared.Refusal.TheVariants.{PhaseOutOfLimits, MomentTo
 use Rattle.stream.specs.declared.Row.{Row}
 use Rattle.stream.specs.declared.Verdict.{Verdict}
 use Rattle.stream.specs.declared.limits.Record.{Record}
-use Rattle.table.specs.Tables.{fresh, opened}
+use Rattle.table.specs.Tables.{fresh, opened, RecordState as State}
 use Rattle.demand.specs.Verdicts.{Judged}
-use Rattle.table.specs.declared.shared.State.{State}
 use Rattle.join.specs.Joins.{joined}
 use Rattle.join.specs.declared.Joined.{Joined}
 use Rattle.table.specs.Growing.{Grown, GrownOn}
 use Rattle.table.specs.Phases.{Aligned}
-use Rattle.table.specs.Rasters.{raster, raster_states, phases_in}
-use Rattle.table.specs.Sporadics.{sporadic, states_in}
-use Rattle.table.specs.declared.phasing.Raster.{Raster as Raster'}
-use Rattle.table.specs.declared.spacing.Sporadic.{Sporadic as Sporadic'}
+use Rattle.table.specs.Rasters.{raster, raster_states, phases_in, Raster as Raster'}
+use Rattle.table.specs.Sporadics.{sporadic, states_in, Sporadic as Sporadic'}
+use Rattle.table.proofs.Views.{raster_begun, sporadic_begun}
 use Rattle.text.specs.Lines.{render}
 use Rattle.text.specs.Places.{out_of_shape}
 use Rattle.text.specs.Reader.{bytes_left, line_number, LineRead, LineRefused}
@@ -141,8 +139,8 @@ open_tested {text} {rest} {line} {end} {rows} start before bank verdict answer p
 -- the two tables joined, and begun
 pub begun_joined : (before : Tables) (joint bank : Joined Sporadic' Raster') (moment : ℕ) → joint.left ≡ before.sporadic → joint.right ≡ before.raster → (joined sporadic raster).begins joint moment bank → Begun (rows_in before) moment bank
 begun_joined before joint bank moment l r g = record {
-  spaced = g.0 ∙ ap (λ (b : Sporadic'). map opened (states_in b)) l;
-  aligned = subst (λ (b : Raster'). Aligned moment (phases_in b) (raster_states b) (raster_states bank.right)) r g.1.0;
+  spaced = sporadic_begun joint.left bank.left moment g.0 ∙ ap (λ (b : Sporadic'). map opened (states_in b)) l;
+  aligned = subst (λ (b : Raster'). Aligned moment (phases_in b) (raster_states b) (raster_states bank.right)) r (raster_begun joint.right bank.right moment g.1).0;
 }
 
 -- a reader at the start of a text, and a table without streams

@@ -13,12 +13,9 @@ use Rattle.stream.specs.declared.limits.Record.{Record}
 use Rattle.join.specs.Joins.{joined}
 use Rattle.join.specs.declared.Joined.{Joined}
 use Rattle.table.specs.Phases.{Aligned}
-use Rattle.table.specs.Rasters.{raster, raster_states, phases_in}
-use Rattle.table.specs.Sporadics.{sporadic, states_in}
-use Rattle.table.specs.Tables.{fresh, opened}
-use Rattle.table.specs.declared.shared.State.{State}
-use Rattle.table.specs.declared.phasing.Raster.{Raster as Raster'}
-use Rattle.table.specs.declared.spacing.Sporadic.{Sporadic as Sporadic'}
+use Rattle.table.specs.Rasters.{raster, raster_states, phases_in, Raster as Raster'}
+use Rattle.table.specs.Sporadics.{sporadic, states_in, Sporadic as Sporadic'}
+use Rattle.table.specs.Tables.{fresh, opened, RecordState as State}
 use Rattle.text.specs.Lines.{render, Valid, LineForm}
 use Rattle.text.specs.Places.{out_of_shape}
 use Rattle.text.specs.Words.{Halts}

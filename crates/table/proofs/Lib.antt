@@ -1,4 +1,4 @@
 pub mod Partly
-pub mod Waiting
 pub mod Phases
 pub mod Shorts
+pub mod Views

@@ -4,11 +4,9 @@ use Rattle.std.specs.Prelude.{◌≡◌, ℕ, ◌<◌, ◌≤◌, [], ◌∷◌,
 use Rattle.stream.specs.declared.Refusal.{Refusal}
 use Rattle.stream.specs.declared.Refusal.TheVariants.{TooManyStreams, PhaseOutOfLimits}
 use Rattle.stream.specs.declared.limits.Record.{Record}
-use Rattle.table.specs.Rasters.{raster_states, phases_in}
-use Rattle.table.specs.Sporadics.{states_in}
+use Rattle.table.specs.Rasters.{Raster, raster_states, phases_in}
+use Rattle.table.specs.Sporadics.{Sporadic, states_in}
 use Rattle.table.specs.Tables.{fresh}
-use Rattle.table.specs.declared.phasing.Raster.{Raster}
-use Rattle.table.specs.declared.spacing.Sporadic.{Sporadic}
 
 pub record Grown (b : Sporadic) (stream : Record) (answer : Result (Unit {0}) Refusal) (c : Sporadic) : Type 0 where
   pub full : 32 ≤ length (states_in b) → (answer ≡ Err TooManyStreams) × (c ≡ b)

@@ -1,13 +1,16 @@
 -- Shortening: every critical stream gets a short deadline of so many thousandths of its deadline, unless one of them would be below its budget.
 
-use Rattle.std.specs.Prelude.{◌≡◌, ℕ, ◌+◌, ◌*◌, ◌/◌, cond, List, [], ◌∷◌, length, Some, None, Ok, Err, Option, Result, nat_le, nat_lt}
+use Rattle.std.specs.Prelude.{◌≡◌, ℕ, ◌+◌, ◌*◌, ◌/◌, Bool, cond, List, length, position, Some, None, Ok, Err, Option, Result, nat_le, nat_lt}
+use Rattle.std.specs.Option.{option_map}
 use Rattle.stream.specs.declared.Class.{Class}
 use Rattle.stream.specs.declared.Class.TheVariants.{Critical, Background}
 use Rattle.stream.specs.declared.Refusal.{Refusal}
 use Rattle.stream.specs.declared.Refusal.TheVariants.{FactorOutOfLimits, ShortDeadlineOutOfLimits}
 use Rattle.stream.specs.declared.Row.{Row}
-use Rattle.table.specs.Tables.{state_of}
+use Rattle.stream.specs.declared.limits.Record.{Record}
+use Rattle.table.specs.Tables.{state_of, states_of}
 use Rattle.table.specs.declared.shared.State.{State}
+use Rattle.table.specs.declared.timetable.Timetable.{Timetable}
 use Rattle.table.specs.declared.shortening.Shortfall.{Shortfall}
 use Rattle.table.specs.declared.shortening.Shortfall.TheVariants.{Factor, Stream}
 
@@ -19,24 +22,27 @@ short_at factor Background row = row.short
 abbrev pub shortened : ℕ → Row → Row
 shortened factor row = record { class = row.class; budget = row.budget; certain = row.certain; short = short_at factor row.class row; deadline = row.deadline; gap = row.gap }
 
--- the first of the streams numbered from i on whose short deadline would be below its budget
-abbrev pub first_short : ℕ → ℕ → List State → Option Shortfall
-first_short factor i [] = None
-first_short factor i (s ∷ rest) = cond (nat_lt (shortened factor s.stream.row).short s.stream.row.budget) (Some (Stream i)) (first_short factor (i + 1) rest)
+-- the short deadline would be below the budget
+abbrev pub too_short : ℕ → Row → Bool
+too_short factor row = nat_lt (shortened factor row).short row.budget
+
+-- the first stream whose short deadline would be below its budget
+abbrev pub first_short : {S : Type 0} → (S → Record) → ℕ → List (State S) → Option Shortfall
+first_short recorded factor states = option_map (λ at. Stream (at + 1)) (position (λ s. too_short factor (recorded s.stream).row) states)
 
 -- why the streams cannot be shortened, if they cannot
-abbrev pub shortfall_of : ℕ → List State → Option Shortfall
-shortfall_of factor states = cond (nat_le 1 factor) (cond (nat_le factor 1000) (first_short factor 1 states) (Some Factor)) (Some Factor)
+abbrev pub shortfall_of : {S : Type 0} → (S → Record) → ℕ → List (State S) → Option Shortfall
+shortfall_of recorded factor states = cond (nat_le 1 factor) (cond (nat_le factor 1000) (first_short recorded factor states) (Some Factor)) (Some Factor)
 
--- every row is shortened, and every wait is as before
-pub record AllShortened (factor : ℕ) (before later : List State) : Type 0 where
+-- every row is shortened, and every stream opens as before: it is alike, and waits as long
+pub record AllShortened {S : Type 0} (recorded : S → Record) (alike : S → S → Type 0) (factor : ℕ) (before later : List (State S)) : Type 0 where
   pub size : length later ≡ length before
-  pub each : (i : ℕ) (s : State) → state_of before i ≡ Some s → (t : State) × (state_of later i ≡ Some t) × (t.stream.row ≡ shortened factor s.stream.row) × (t.wait ≡ s.wait)
+  pub each : (i : ℕ) (s : State S) → state_of before i ≡ Some s → (t : State S) × (state_of later i ≡ Some t) × ((recorded t.stream).row ≡ shortened factor (recorded s.stream).row) × (t.wait ≡ s.wait) × alike s.stream t.stream
 
--- what shortening answers: `same` on a refusal, and else `done`
-pub record Shortening (factor : ℕ) (states : List State) (answer : Result (Unit {0}) Shortfall) (same done : Type 0) : Type 0 where
-  pub refused : (why : Shortfall) → shortfall_of factor states ≡ Some why → (answer ≡ Err why) × same
-  pub accepted : shortfall_of factor states ≡ None → (answer ≡ Ok tt) × done
+-- what shortening answers: a reason why not, and then nothing changes; else all are shortened
+pub record Shortening {S : Type 0} (recorded : S → Record) (alike : S → S → Type 0) (factor : ℕ) (b : Timetable S) (answer : Result (Unit {0}) Shortfall) (c : Timetable S) : Type 0 where
+  pub refused : (why : Shortfall) → shortfall_of recorded factor (states_of b.table) ≡ Some why → (answer ≡ Err why) × (c ≡ b)
+  pub accepted : shortfall_of recorded factor (states_of b.table) ≡ None → (answer ≡ Ok tt) × AllShortened recorded alike factor (states_of b.table) (states_of c.table)
 
 abbrev pub refusal_of : Shortfall → Refusal
 refusal_of Factor = FactorOutOfLimits

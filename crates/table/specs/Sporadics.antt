@@ -1,15 +1,18 @@
 -- The bank of streams that stay closed for a gap after each release, and else are open.
 
-use Rattle.std.specs.Prelude.{◌≡◌, List, map}
+use Rattle.std.specs.Prelude.{◌≡◌, ◌-◌, List}
 use Rattle.bank.specs.Kinds.{Kind}
-use Rattle.table.specs.Tabled.{tabled}
-use Rattle.table.specs.Tables.{states_of, opened, lowered, Closes}
-use Rattle.table.specs.declared.shared.State.{State}
-use Rattle.table.specs.declared.spacing.Sporadic.{Sporadic}
+use Rattle.stream.specs.declared.limits.Record.{Record}
+use Rattle.table.specs.Tabled.{timetabled}
+use Rattle.table.specs.Tables.{RecordState, states_of}
+use Rattle.table.specs.declared.timetable.Timetable.{Timetable}
 
-abbrev pub states_in : Sporadic → List State
+abbrev pub Sporadic : Type 0
+Sporadic = Timetable Record
+
+abbrev pub states_in : Sporadic → List RecordState
 states_in b = states_of b.table
 
 -- its letter is S
 abbrev pub sporadic : Kind Sporadic
-sporadic = tabled 83 (λ b. b.table) (λ b moment c. states_in c ≡ map opened (states_in b)) (λ b c. states_in c ≡ map lowered (states_in b)) (λ b i c. Closes (states_in b) i (states_in c))
+sporadic = timetabled 83 (λ r. r) (λ moment r wait. wait ≡ 0) (λ r wait. wait - 1)

@@ -2,12 +2,12 @@
 
 #![tactic(auto)]
 
-mod moments;
 mod phasing;
 mod shared;
 mod shortening;
 mod spacing;
+mod timed;
+mod timetable;
 
-pub use phasing::Raster;
 pub use shortening::Shortfall;
-pub use spacing::Sporadic;
+pub use timetable::{Raster, Sporadic};

@@ -1,17 +1,17 @@
 // The table that the banks of this crate share. It keeps no invariant, so that its methods may change one state at a time.
 
-ghost use Rattle.std.specs.Prelude.{◌≡◌, ◌<◌, ◌≤◌, [], ◌∷◌, ◌++◌, map, length, IfOk, Some, None, vec_capacity, slice_set};
+ghost use Rattle.std.specs.Prelude.{◌≡◌, ◌<◌, ◌≤◌, [], ◌∷◌, ◌++◌, map, length, position, IfOk, IfSome, Some, None, vec_capacity, slice_set};
 ghost use Rattle.bank.specs.Accepting.{Accepted};
 ghost use Rattle.bank.specs.Questions.{asked, counted, told};
 ghost use Rattle.std.specs.Option.{option_map};
 ghost use Rattle.std.specs.List.{slice_get};
-ghost use Rattle.table.specs.Phases.{Aligned, Phased, turned};
-ghost use Rattle.table.specs.Shortening.{AllShortened, shortfall_of};
+ghost use Rattle.std.specs.Result.{result_err};
+ghost use Rattle.table.specs.Shortening.{AllShortened, shortfall_of, too_short};
 ghost use Rattle.table.specs.Tabled.{still};
-ghost use Rattle.table.specs.Tables.{SameSize, ceiling_of, fresh, lowered, opened, opening_of, record_of, state_of, states_of, waiting};
+ghost use Rattle.table.specs.Tables.{Rewaited, SameSize, ceiling_of, fresh, opening_of, record_of, state_of, states_of, ticked, waiting};
 
-use crate::moments::{first_wait, wait_after};
-use crate::shortening::{Shortfall, shorten_record, shorten_row};
+use crate::shortening::{Shortfall, falls_short, shorten_record};
+use crate::timed::Timed;
 use bank::{Question, ask};
 use std::alloc::{AllocError, Global};
 use stream::{Record, Refusal};
@@ -21,19 +21,19 @@ pub(crate) const MOST: usize = 32;
 
 // A stream and how many ticks it stays closed.
 #[derive(Clone, Copy)]
-pub(crate) struct State {
-    pub(crate) stream: Record,
+pub(crate) struct State<S> {
+    pub(crate) stream: S,
     pub(crate) wait: u64,
 }
 
 // The states of streams 1, 2 and so on.
 #[derive(Drop)]
-pub(crate) struct Table {
-    states: Vec<State>,
+pub(crate) struct Table<S> {
+    states: Vec<State<S>>,
 }
 
-impl Table {
-    pub(crate) fn with_room(heap: Global, room: usize) -> Result<Table, AllocError>
+impl<S: Timed> Table<S> {
+    pub(crate) fn with_room(heap: Global, room: usize) -> Result<Table<S>, AllocError>
         ensures { IfOk result (λ t. (states_of t ≡ []) × (room ≤ vec_capacity t.states)) }
     {
         let states = Vec::with_capacity(heap, room)?;
@@ -46,7 +46,7 @@ impl Table {
         self.states.len() as u64
     }
 
-    pub(crate) fn state(&self, stream: u64) -> Option<&State>
+    pub(crate) fn state(&self, stream: u64) -> Option<&State<S>>
         ensures { option_map (λ x. x.now) result ≡ state_of (states_of self.now) stream }
     {
         let at = stream.checked_sub(1)?;
@@ -54,47 +54,44 @@ impl Table {
     }
 
     pub(crate) fn record_of(&self, stream: u64) -> Option<Record>
-        ensures { result ≡ record_of (states_of self.now) stream }
+        ensures { result ≡ record_of S.recorded (states_of self.now) stream }
     {
         let state = self.state(stream)?;
-        Some(state.stream)
+        Some(state.stream.record())
     }
 
     // One release a gap is what a table lets through.
     pub(crate) fn count(&self, stream: u64) -> Option<u64>
-        ensures { result ≡ counted (record_of (states_of self.now) stream) 1 }
+        ensures { result ≡ counted (record_of S.recorded (states_of self.now) stream) 1 }
     {
-        match self.state(stream) {
-            Some(_) => Some(1),
-            None => None,
-        }
+        self.state(stream).map(|_| 1)
     }
 
     pub(crate) fn ceiling(&self, stream: u64, m: i64) -> Option<u64>
-        ensures { result ≡ told (record_of (states_of self.now) stream) (ceiling_of (states_of self.now) stream) (asked m) }
+        ensures { result ≡ told (record_of S.recorded (states_of self.now) stream) (ceiling_of S.recorded (states_of self.now) stream) (asked m) }
     {
         let state = self.state(stream)?;
         match ask(m) {
             Question::Outside => None,
             Question::Before => Some(0),
-            Question::At(m) => Some(m / state.stream.row().gap + 1),
+            Question::At(m) => Some(m / state.stream.record().row().gap + 1),
         }
     }
 
     pub(crate) fn opening(&self, stream: u64, m: i64) -> Option<u64>
-        ensures { result ≡ told (record_of (states_of self.now) stream) (opening_of (states_of self.now) stream) (asked m) }
+        ensures { result ≡ told (record_of S.recorded (states_of self.now) stream) (opening_of S.recorded (states_of self.now) stream) (asked m) }
     {
         let state = self.state(stream)?;
         match ask(m) {
             Question::Outside => None,
             Question::Before => Some(0),
             Question::At(m) if m < state.wait => Some(0),
-            Question::At(m) => Some((m - state.wait) / state.stream.row().gap + 1),
+            Question::At(m) => Some((m - state.wait) / state.stream.record().row().gap + 1),
         }
     }
 
     // Adds a stream that is open at once.
-    pub(crate) fn push(&mut self, stream: Record)
+    pub(crate) fn push(&mut self, stream: S)
         requires { length (states_of self.old) < vec_capacity self.old.states }
         ensures states { states_of self.new ≡ states_of self.old ++ fresh stream ∷ [] }
         ensures room { vec_capacity self.new.states ≡ vec_capacity self.old.states }
@@ -102,10 +99,10 @@ impl Table {
         self.states.push_reserved(State { stream, wait: 0 });
     }
 
-    // The one way to change a stream's wait. Places are counted from 0.
+    // The one way to change the wait of a single stream. Places are counted from 0.
     fn set_wait(&mut self, at: usize, wait: u64)
         requires { at < length (states_of self.old) }
-        ensures states { (s : State) → slice_get (states_of self.old) at ≡ Some s → states_of self.new ≡ slice_set (states_of self.old) at (waiting wait s) }
+        ensures states { (s : _) → slice_get (states_of self.old) at ≡ Some s → states_of self.new ≡ slice_set (states_of self.old) at (waiting wait s) }
         ensures size { SameSize self.old self.new }
     {
         self.states[at].wait = wait;
@@ -113,87 +110,71 @@ impl Table {
 
     // Closes a stream that is open for its gap.
     pub(crate) fn accept(&mut self, stream: u64) -> Result<(), Refusal>
-        ensures answer { Accepted still self.old stream result self.new }
+        ensures answer { Accepted (still S.recorded) self.old stream result self.new }
         ensures size { SameSize self.old self.new }
     {
-        let Some(state) = self.state(stream) else {
-            return Err(Refusal::NoSuchStream);
-        };
+        let state = self.state(stream).ok_or(Refusal::NoSuchStream)?;
         if state.wait > 0 {
             return Err(Refusal::NotOpen);
         }
-        let gap = state.stream.row().gap;
+        let gap = state.stream.record().row().gap;
         self.set_wait((stream - 1) as usize, gap);
         Ok(())
     }
 
-    pub(crate) fn open_all(&mut self)
-        ensures states { states_of self.new ≡ map opened (states_of self.old) }
-        ensures size { SameSize self.old self.new }
-    {
-        for at in 0..self.states.len() {
-            self.set_wait(at, 0);
-        }
-    }
-
-    pub(crate) fn lower_all(&mut self)
-        ensures states { states_of self.new ≡ map lowered (states_of self.old) }
-        ensures size { SameSize self.old self.new }
-    {
-        for at in 0..self.states.len() {
-            let state = self.states[at];
-            self.set_wait(at, state.wait.saturating_sub(1));
-        }
-    }
-
-    // Makes each stream wait for the first moment of its phase.
-    pub(crate) fn align(&mut self, phases: &[u64], moment: u64)
-        requires room { length (states_of self.old) ≤ length phases.now }
-        requires phased { Phased phases.now (states_of self.old) }
-        ensures states { Aligned moment phases.now (states_of self.old) (states_of self.new) }
-        ensures size { SameSize self.old self.new }
-    {
-        for at in 0..self.states.len() {
-            let state = self.states[at];
-            self.set_wait(at, first_wait(moment, state.stream.row().gap, phases[at]));
-        }
-    }
-
-    pub(crate) fn turn_all(&mut self)
-        ensures states { states_of self.new ≡ map turned (states_of self.old) }
-        ensures size { SameSize self.old self.new }
-    {
-        for at in 0..self.states.len() {
-            let state = self.states[at];
-            self.set_wait(at, wait_after(state.wait, state.stream.row().gap));
-        }
-    }
-
-    // Why the streams cannot be shortened by the factor, if they cannot.
-    pub(crate) fn falls_short(&self, factor: u64) -> Option<Shortfall>
-        ensures { result ≡ shortfall_of factor (states_of self.now) }
-    {
-        if factor < 1 || factor > 1000 {
-            return Some(Shortfall::Factor);
-        }
-        let mut stream = 1;
-        for state in self.states.iter() {
-            let row = state.stream.row();
-            if shorten_row(row, factor).short < row.budget {
-                return Some(Shortfall::Stream(stream));
-            }
-            stream += 1;
-        }
-        None
-    }
-
-    pub(crate) fn shorten_all(&mut self, factor: u64)
-        requires { shortfall_of factor (states_of self.old) ≡ None }
-        ensures states { AllShortened factor (states_of self.old) (states_of self.new) }
+    // Makes each stream wait from a moment on.
+    pub(crate) fn begin_all(&mut self, moment: u64)
+        ensures states { Rewaited (λ i s wait. S.first_wait moment s wait) (states_of self.old) (states_of self.new) }
         ensures size { SameSize self.old self.new }
     {
         for state in self.states.iter_mut() {
-            state.stream = shorten_record(state.stream, factor);
+            state.wait = state.stream.first_wait(moment);
+        }
+    }
+
+    pub(crate) fn tick_all(&mut self)
+        ensures states { states_of self.new ≡ map (ticked S.wait_after) (states_of self.old) }
+        ensures size { SameSize self.old self.new }
+    {
+        for state in self.states.iter_mut() {
+            state.wait = state.stream.wait_after(state.wait);
+        }
+    }
+
+    // The place of the first stream whose short deadline would be below its budget.
+    fn first_short(&self, factor: u64) -> Option<usize>
+        requires { factor ≤ 1000 }
+        ensures place { result ≡ position (λ s. too_short factor (S.recorded s.stream).row) (states_of self.now) }
+        ensures bound { IfSome result (λ at. at < length (states_of self.now)) }
+    {
+        self.states.iter().position(
+            |state| -> bool
+                requires { factor ≤ 1000 }
+            { falls_short(state.stream.record(), factor) },
+        )
+    }
+
+    // Why the streams cannot be shortened by the factor, if they cannot.
+    pub(crate) fn falls_short(&self, factor: u64) -> Result<(), Shortfall>
+        ensures { result_err result ≡ shortfall_of S.recorded factor (states_of self.now) }
+    {
+        if factor < 1 || factor > 1000 {
+            return Err(Shortfall::Factor);
+        }
+        match self.first_short(factor) {
+            Some(at) => Err(Shortfall::Stream(at as u64 + 1)),
+            None => Ok(()),
+        }
+    }
+
+    pub(crate) fn shorten_all(&mut self, factor: u64)
+        requires { shortfall_of S.recorded factor (states_of self.old) ≡ None }
+        ensures states { AllShortened S.recorded S.alike factor (states_of self.old) (states_of self.new) }
+        ensures size { SameSize self.old self.new }
+    {
+        for state in self.states.iter_mut() {
+            let record = shorten_record(state.stream.record(), factor);
+            state.stream = state.stream.with_record(record);
         }
     }
 }

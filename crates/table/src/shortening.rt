@@ -1,7 +1,7 @@
 // Shorter short deadlines for critical streams: an overrun then finds more slack.
 
 ghost use Rattle.std.specs.Prelude.{◌≡◌, ◌≤◌};
-ghost use Rattle.table.specs.Shortening.{refusal_of, shortened};
+ghost use Rattle.table.specs.Shortening.{refusal_of, shortened, too_short};
 
 use stream::{Class, Record, Refusal, Row};
 
@@ -12,11 +12,11 @@ pub enum Shortfall {
     Stream(u64),
 }
 
-impl Shortfall {
-    pub fn refusal(&self) -> Refusal
-        ensures { result ≡ refusal_of self.now }
-    {
-        match self {
+impl From<Shortfall> for Refusal {
+    ghost from_gives = { λ why refusal. refusal ≡ refusal_of why };
+
+    fn from(why: Shortfall) -> Refusal {
+        match why {
             Shortfall::Factor => Refusal::FactorOutOfLimits,
             Shortfall::Stream(_) => Refusal::ShortDeadlineOutOfLimits,
         }
@@ -30,24 +30,27 @@ pub(crate) fn shorten_row(row: Row, factor: u64) -> Row
 {
     match row.class {
         Class::Critical => Row {
-            class: row.class,
-            budget: row.budget,
-            certain: row.certain,
             short: row.deadline * factor / 1000,
-            deadline: row.deadline,
-            gap: row.gap,
+            ..row
         },
         Class::Background => row,
     }
 }
 
+// Whether the short deadline would be below the budget.
+pub(crate) fn falls_short(stream: Record, factor: u64) -> bool
+    requires { factor ≤ 1000 }
+    ensures { result ≡ too_short factor stream.row }
+{
+    let row = stream.row();
+    shorten_row(row, factor).short < row.budget
+}
+
 // A record whose short deadline would be below its budget stays as it is.
 pub(crate) fn shorten_record(stream: Record, factor: u64) -> Record
     requires { factor ≤ 1000 }
-    ensures { stream.row.budget ≤ (shortened factor stream.row).short → result.row ≡ shortened factor stream.row }
+    ensures gap { result.row.gap ≡ stream.row.gap }
+    ensures row { stream.row.budget ≤ (shortened factor stream.row).short → result.row ≡ shortened factor stream.row }
 {
-    match Record::new(shorten_row(stream.row(), factor)) {
-        Ok(made) => made,
-        Err(_) => stream,
-    }
+    Record::new(shorten_row(stream.row(), factor)).unwrap_or(stream)
 }

@@ -1,16 +1,40 @@
 // Streams of which two releases are never nearer to each other than the gap.
 
-ghost use Rattle.std.specs.Prelude.{◌≤◌, length, vec_capacity};
-ghost use Rattle.table.specs.Tables.{states_of};
+ghost use Rattle.std.specs.Prelude.{◌≡◌, ◌-◌};
+ghost use Rattle.table.specs.WaitsLemmas.{tick_opens_no_more};
 
-use crate::shared::Table;
+use crate::timed::Timed;
+use stream::Record;
 
-pub(crate) mod banking;
+// Such a stream is its record: it opens at once, and each tick takes one off its wait.
+impl Timed for Record {
+    ghost recorded = { λ r. r };
 
-// At most 32 streams, with room for all from the start, so that growing never allocates.
-#[derive(Drop)]
-pub struct Sporadic {
-    table: Table,
-    ghost few: { length (states_of table) ≤ 32 },
-    ghost room: { 32 ≤ vec_capacity table.states },
+    ghost first_wait = { λ moment r wait. wait ≡ 0 };
+
+    ghost wait_after = { λ r wait. wait - 1 };
+
+    ghost alike = { λ r s. Unit {0} };
+
+    ghost LETTER = { 83 };
+
+    const LETTER: char = 'S';
+
+    ghost opens_no_more = { λ r wait m. tick_opens_no_more wait r.row.gap m r.within.0.0 };
+
+    fn record(&self) -> Record {
+        *self
+    }
+
+    fn first_wait(&self, _moment: u64) -> u64 {
+        0
+    }
+
+    fn wait_after(&self, wait: u64) -> u64 {
+        wait.saturating_sub(1)
+    }
+
+    fn with_record(&self, other: Record) -> Record {
+        other
+    }
 }

@@ -12,11 +12,10 @@ use Rattle.stream.specs.declared.Verdict.{Verdict}
 use Rattle.stream.specs.declared.limits.Record.{Record}
 use Rattle.least.specs.Orders.{pair_below}
 use Rattle.demand.proofs.Deciding.{judged}
-use Rattle.table.specs.Sporadics.{sporadic, states_in}
-use Rattle.table.specs.Tables.{closed, fresh as idle, lowered, opened, opening_of, record_of, state_of}
+use Rattle.table.specs.Sporadics.{sporadic, states_in, Sporadic}
+use Rattle.table.specs.Tables.{closed, fresh as idle, lowered, opened, opening_of, record_of, state_of, RecordState as Wait}
 use Rattle.table.specs.Waits.{after}
-use Rattle.table.specs.declared.shared.State.{State as Wait}
-use Rattle.table.specs.declared.spacing.Sporadic.{Sporadic}
+use Rattle.table.proofs.Views.{sporadic_begins}
 use Rattle.turns.specs.Jobs.{background as background_class, job_of, released}
 use Rattle.turns.specs.Runs.{Call, release, pick, settle, calm, Heard, refused, granted, named, Run, Step, still, step}
 use Rattle.turns.specs.Steps.{Next, Started, after_turn, fresh, in_overrun, key, pick_refusal, release_refusal, runner, told_of, with_job, with_turn}
@@ -109,34 +108,34 @@ module _ (b : Sporadic) (x y : Record) (lock_row : x.row ≡ critical 4 2) (prev
   lock_in : (c d : Sporadic) (q : ℕ) → At c 0 q → At d 6 q → sporadic.accepts c 1 d
   lock_in c d q from to =
       let gap : x.row.gap ≡ 6 = ap (λ (r : Row). r.gap) lock_row in
-      (record { stream = x; wait = 0 }, ap (λ (xs : List Wait). state_of xs 1) from, to ∙ ap (λ (n : ℕ). waits n q) (sym gap) ∙ sym (ap (λ (xs : List Wait). set xs 0 (closed (record { stream = x; wait = 0 }))) from))
+      (record { stream = x; wait = 0 }, ap (λ (xs : List Wait). state_of xs 1) from, to ∙ ap (λ (n : ℕ). waits n q) (sym gap) ∙ sym (ap (λ (xs : List Wait). set xs 0 (closed (λ r. r) (record { stream = x; wait = 0 }))) from))
 
   preview_in : (c d : Sporadic) (p : ℕ) → At c p 0 → At d p 6 → sporadic.accepts c 2 d
   preview_in c d p from to =
       let gap : y.row.gap ≡ 6 = ap (λ (r : Row). r.gap) preview_row in
-      (record { stream = y; wait = 0 }, ap (λ (xs : List Wait). state_of xs 2) from, to ∙ ap (λ (n : ℕ). waits p n) (sym gap) ∙ sym (ap (λ (xs : List Wait). set xs 1 (closed (record { stream = y; wait = 0 }))) from))
+      (record { stream = y; wait = 0 }, ap (λ (xs : List Wait). state_of xs 2) from, to ∙ ap (λ (n : ℕ). waits p n) (sym gap) ∙ sym (ap (λ (xs : List Wait). set xs 1 (closed (λ r. r) (record { stream = y; wait = 0 }))) from))
 
   lock_open : (c : Sporadic) (q : ℕ) → At c 0 q → sporadic.opening c 1 0 ≡ 1
-  lock_open c q at = ap (λ (xs : List Wait). opening_of xs 1 0) at ∙ ap (λ (r : Row). after 0 r.gap 0) lock_row
+  lock_open c q at = ap (λ (xs : List Wait). opening_of (λ r. r) xs 1 0) at ∙ ap (λ (r : Row). after 0 r.gap 0) lock_row
 
   preview_open : (c : Sporadic) (p : ℕ) → At c p 0 → sporadic.opening c 2 0 ≡ 1
-  preview_open c p at = ap (λ (xs : List Wait). opening_of xs 2 0) at ∙ ap (λ (r : Row). after 0 r.gap 0) preview_row
+  preview_open c p at = ap (λ (xs : List Wait). opening_of (λ r. r) xs 2 0) at ∙ ap (λ (r : Row). after 0 r.gap 0) preview_row
 
   -- the calls
   lock_taken : (v : Verdict) (c d : Sporadic) → At c 0 0 → At d 6 0 → Step sporadic c (worker v 0 Normal None None None (tally 0 0 0 0)) (release 1) granted d (worker v 0 Normal None (Some (lock 0)) None (tally 1 0 0 0))
   lock_taken v c d from to =
       let s = worker v 0 Normal None None None (tally 0 0 0 0) in
-      (Ok tt, (x, ap (λ (xs : List Wait). record_of xs 1) from, ap (λ (n : ℕ). release_refusal s 1 (Some x) n) (lock_open c 0 from) ∙ ap (λ (r : Row). cond (background_class r.class && in_overrun Normal) (Some BackgroundInOverrun) None) lock_row, lock_in c d 0 from to, sym (ap (λ (r : Row). with_job s 1 (released r 0)) lock_row)), refl)
+      (Ok tt, (x, ap (λ (xs : List Wait). record_of (λ r. r) xs 1) from, ap (λ (n : ℕ). release_refusal s 1 (Some x) n) (lock_open c 0 from) ∙ ap (λ (r : Row). cond (background_class r.class && in_overrun Normal) (Some BackgroundInOverrun) None) lock_row, lock_in c d 0 from to, sym (ap (λ (r : Row). with_job s 1 (released r 0)) lock_row)), refl)
 
   preview_taken : (v : Verdict) (c d : Sporadic) (p : ℕ) (first : Option Job) (n : ℕ) → At c p 0 → At d p 6 → Step sporadic c (worker v 0 Normal None first None (tally n 0 0 0)) (release 2) granted d (worker v 0 Normal None first (Some (preview 0)) (tally (n + 1) 0 0 0))
   preview_taken v c d p first n from to =
       let s = worker v 0 Normal None first None (tally n 0 0 0) in
-      (Ok tt, (y, ap (λ (xs : List Wait). record_of xs 2) from, ap (λ (o : ℕ). release_refusal s 2 (Some y) o) (preview_open c p from) ∙ ap (λ (r : Row). cond (background_class r.class && in_overrun Normal) (Some BackgroundInOverrun) None) preview_row, preview_in c d p from to, sym (ap (λ (r : Row). with_job s 2 (released r 0)) preview_row)), refl)
+      (Ok tt, (y, ap (λ (xs : List Wait). record_of (λ r. r) xs 2) from, ap (λ (o : ℕ). release_refusal s 2 (Some y) o) (preview_open c p from) ∙ ap (λ (r : Row). cond (background_class r.class && in_overrun Normal) (Some BackgroundInOverrun) None) preview_row, preview_in c d p from to, sym (ap (λ (r : Row). with_job s 2 (released r 0)) preview_row)), refl)
 
   preview_refused : (v : Verdict) (c : Sporadic) (p q : ℕ) (m : ℕ) (first : Option Job) (counts : Tally) → At c p q → Step sporadic c (worker v m Overrun None first None counts) (release 2) refused c (worker v m Overrun None first None counts)
   preview_refused v c p q m first counts at =
       let s = worker v m Overrun None first None counts in
-      (Err BackgroundInOverrun, (ap (λ (f : Option Record). release_refusal s 2 f (sporadic.opening c 2 0)) (ap (λ (xs : List Wait). record_of xs 2) at) ∙ ap (λ (r : Row). cond (background_class r.class && in_overrun Overrun) (Some BackgroundInOverrun) (cond (eqb (sporadic.opening c 2 0) 0) (Some NotOpen) None)) preview_row, refl, refl), refl)
+      (Err BackgroundInOverrun, (ap (λ (f : Option Record). release_refusal s 2 f (sporadic.opening c 2 0)) (ap (λ (xs : List Wait). record_of (λ r. r) xs 2) at) ∙ ap (λ (r : Row). cond (background_class r.class && in_overrun Overrun) (Some BackgroundInOverrun) (cond (eqb (sporadic.opening c 2 0) 0) (Some NotOpen) None)) preview_row, refl, refl), refl)
 
   -- the lock's turn beside the preview, or alone, and the preview's alone
   lock_turn : (v : Verdict) (m : ℕ) (u : ℕ) (n : ℕ) → m < 1000000000000 → Next (worker v m Normal None (Some (lock u)) (Some (preview n)) (tally 2 0 0 0)) (Of 1)
@@ -199,7 +198,7 @@ opened_so bank pair =
       (x, y, w.first_row, w.second_row, at),
       record {
         late = λ l. let z : ⊥ = omega arith in absurd z;
-        begun = λ _. (at ∙ sym (ap (map opened) w.is), judged sporadic b (Ok (verdict 6 7 Normal 2 (pos 0))) (worked.accepted b same_rows), refl);
+        begun = λ _. (sporadic_begins bank b 0 (at ∙ sym (ap (map opened) w.is)), judged sporadic b (Ok (verdict 6 7 Normal 2 (pos 0))) (worked.accepted b same_rows), refl);
       },
     )
 

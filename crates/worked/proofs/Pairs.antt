@@ -14,11 +14,9 @@ use Rattle.demand.specs.Horizons.{Common}
 use Rattle.demand.specs.Shares.{normal_share, overrun_share}
 use Rattle.demand.specs.Verdicts.{point_at, InReach, AcceptsAll, ExceedsFirst, Exceeds}
 use Rattle.demand.proofs.Beyond.{fits_beyond}
-use Rattle.table.specs.Sporadics.{sporadic, states_in}
-use Rattle.table.specs.Tables.{record_of, ceiling_of}
+use Rattle.table.specs.Sporadics.{sporadic, states_in, Sporadic}
+use Rattle.table.specs.Tables.{record_of, ceiling_of, RecordState as State}
 use Rattle.table.specs.Waits.{every}
-use Rattle.table.specs.declared.shared.State.{State}
-use Rattle.table.specs.declared.spacing.Sporadic.{Sporadic}
 use Rattle.table.specs.Openings.{ceiling_lawful}
 use Rattle.table.specs.TablesLemmas.{record_numbered}
 use Rattle.worked.specs.Plans.{rows, Pair}
@@ -45,7 +43,7 @@ abbrev pub pair_demand : Row → Row → Phase → ℕ → ℕ
 pair_demand x y p t = row_share x p t + row_share y p t
 
 abbrev states_demand : List State → Phase → ℕ → ℕ
-states_demand xs p t = total (length xs) (λ i. share (record_of xs i) p (ceiling_of xs i) t)
+states_demand xs p t = total (length xs) (λ i. share (record_of (λ r. r) xs i) p (ceiling_of (λ r. r) xs i) t)
 
 two_demand : (s u : State) (p : Phase) (t : ℕ) → states_demand (s ∷ u ∷ []) p t ≡ pair_demand s.stream.row u.stream.row p t
 unfolding total
@@ -53,7 +51,7 @@ two_demand s u Normal t = ap (λ (n : ℕ). n + row_share u.stream.row Normal t)
 two_demand s u Overrun t = ap (λ (n : ℕ). n + row_share u.stream.row Overrun t) (zero-add (row_share s.stream.row Overrun t))
 
 -- what holds of both rows holds of every record
-either_row : (P : Row → Type 0) (s u : State) (r : Record) → P s.stream.row → P u.stream.row → (i : ℕ) → record_of (s ∷ u ∷ []) i ≡ Some r → 1 ≤ i → i ≤ 2 → P r.row
+either_row : (P : Row → Type 0) (s u : State) (r : Record) → P s.stream.row → P u.stream.row → (i : ℕ) → record_of (λ r. r) (s ∷ u ∷ []) i ≡ Some r → 1 ≤ i → i ≤ 2 → P r.row
 either_row P s u r ps pu zero e some few = let z : ⊥ = omega arith in absurd z
 either_row P s u r ps pu (suc zero) e some few = let is : s.stream ≡ r = cc in subst (λ (q : Record). P q.row) is ps
 either_row P s u r ps pu (suc (suc zero)) e some few = let is : u.stream ≡ r = cc in subst (λ (q : Record). P q.row) is pu
@@ -110,15 +108,15 @@ module _ (x y : Row) (b : Sporadic) (pair : Pair x y b) where
   each_row : (P : Row → Type 0) → P x → P y → (i : ℕ) (r : Record) → sporadic.records b i ≡ Some r → P r.row
   each_row P px py i r e =
       let w = two x y (states_in b) pair in
-      let at = record_numbered (states_in b) i r e in
+      let at = record_numbered (λ r. r) (states_in b) i r e in
       let long = streams_pair in
-      either_row P w.first w.second r (subst P (sym w.first_row) px) (subst P (sym w.second_row) py) i (sym (ap (λ (xs : List State). record_of xs i) w.is) ∙ e) at.0 (omega arith)
+      either_row P w.first w.second r (subst P (sym w.first_row) px) (subst P (sym w.second_row) py) i (sym (ap (λ (xs : List State). record_of (λ r. r) xs i) w.is) ∙ e) at.0 (omega arith)
 
   pub gaps_divide : (m : ℕ) → Common sporadic b m → (m % x.gap ≡ 0) × (m % y.gap ≡ 0)
   gaps_divide m common =
       let w = two x y (states_in b) pair in
-      let first = common.divided 1 w.first.stream (ap (λ (xs : List State). record_of xs 1) w.is) in
-      let second = common.divided 2 w.second.stream (ap (λ (xs : List State). record_of xs 2) w.is) in
+      let first = common.divided 1 w.first.stream (ap (λ (xs : List State). record_of (λ r. r) xs 1) w.is) in
+      let second = common.divided 2 w.second.stream (ap (λ (xs : List State). record_of (λ r. r) xs 2) w.is) in
       (sym (ap (λ (r : Row). m % r.gap) w.first_row) ∙ first, sym (ap (λ (r : Row). m % r.gap) w.second_row) ∙ second)
 
   pub reach_pair : (h : ℕ) → Least x y h → h ≤ 1000000 → InReach sporadic b h
@@ -169,7 +167,7 @@ module _ (x y : Row) (b : Sporadic) (pair : Pair x y b) where
                 subst (λ (n : ℕ). point_below (point_at sporadic b p n) v.point ≡ false) back (above_pair v.horizon v.point above p (t - 1) (omega arith));
           };
         };
-        feasible = fits_beyond sporadic b (ceiling_lawful (states_in b)) v.horizon reach.horizon.common all;
+        feasible = fits_beyond sporadic b (ceiling_lawful (λ r. r) (states_in b)) v.horizon reach.horizon.common all;
       }
 
   first_pair : (p : Phase) (t : ℕ) → first_test x y p t ≡ true → ExceedsFirst sporadic b p t

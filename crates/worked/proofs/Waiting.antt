@@ -12,17 +12,17 @@ use Rattle.bank.proofs.Backs.{back_before}
 use Rattle.table.specs.Phases.{Until, next_wait, turned}
 use Rattle.table.specs.Rasters.{raster, raster_states}
 use Rattle.table.specs.Sporadics.{sporadic, states_in}
-use Rattle.table.specs.Tables.{state_of, record_of, opening_of, waiting, lowered}
+use Rattle.table.specs.Tables.{states_of, state_of, record_of, opening_of, waiting, lowered, RecordState as State}
 use Rattle.table.specs.Waits.{every}
-use Rattle.table.specs.declared.shared.State.{State}
 use Rattle.table.specs.Openings.{opening_at, idle_is_open}
 use Rattle.table.specs.TablesLemmas.{state_of_map}
+use Rattle.table.proofs.Views.{record_viewed, opening_viewed, raster_ticked}
 use Rattle.worked.specs.Plans.{Later}
 
 -- a kind over a table: a tick takes one off a wait
 pub record Tabled {B : Type 0} (k : Kind B) (states : B → List State) : Type 0 where
-  pub records : (b : B) (i : ℕ) → k.records b i ≡ record_of (states b) i
-  pub opening : (b : B) (i : ℕ) → k.opening b i 0 ≡ opening_of (states b) i 0
+  pub records : (b : B) (i : ℕ) → k.records b i ≡ record_of (λ r. r) (states b) i
+  pub opening : (b : B) (i : ℕ) → k.opening b i 0 ≡ opening_of (λ r. r) (states b) i 0
   pub down : (b c : B) (i wait : ℕ) (s : State) → k.ticks b c → state_of (states b) i ≡ Some (waiting (suc wait) s) → state_of (states c) i ≡ Some (waiting wait s)
 
 pub sporadic_tabled : Tabled sporadic states_in
@@ -36,13 +36,13 @@ sporadic_tabled = record {
 
 pub raster_tabled : Tabled raster raster_states
 raster_tabled = record {
-  records = λ b i. refl;
-  opening = λ b i. refl;
+  records = λ b i. record_viewed (states_of b.table) i;
+  opening = λ b i. opening_viewed (states_of b.table) i 0;
   down = λ b c i wait s t e.
       let gap : ℕ = s.stream.row.gap in
       let less : suc wait - 1 ≡ wait = omega arith in
       let next : next_wait (suc wait) gap ≡ wait = ap (λ (z : Bool). cond z (gap - 1) (suc wait - 1)) (ne_eqb (suc wait) 0 (λ z. let f : ⊥ = omega arith in absurd f)) ∙ less in
-      ap (λ (xs : List State). state_of xs i) t.0 ∙ state_of_map turned (raster_states b) i ∙ ap (option_map turned) e ∙ ap (λ (w : ℕ). Some (waiting w s)) next;
+      ap (λ (xs : List State). state_of xs i) (raster_ticked b c t).0 ∙ state_of_map turned (raster_states b) i ∙ ap (option_map turned) e ∙ ap (λ (w : ℕ). Some (waiting w s)) next;
 }
 
 module _ {B : Type 0} (k : Kind B) (states : B → List State) (table : Tabled k states) (i : ℕ) (s : State) where
@@ -58,7 +58,7 @@ module _ {B : Type 0} (k : Kind B) (states : B → List State) (table : Tabled k
       let whole : wait ≡ n + (wait - n) = omega arith in
       let now = waits_down n (wait - n) run (e ∙ ap (λ (w : ℕ). Some (waiting w s)) whole) in
       let found = table.records c i ∙ ap (option_map (λ (s : State). s.stream)) now in
-      let shut = table.opening c i ∙ opening_at (states c) i 0 (waiting (wait - n) s) now ∙ back_before (every s.stream.row.gap) 0 (wait - n) (omega arith) in
+      let shut = table.opening c i ∙ opening_at (λ r. r) (states c) i 0 (waiting (wait - n) s) now ∙ back_before (every s.stream.row.gap) 0 (wait - n) (omega arith) in
       (accepted.shut s.stream found shut).0
 
   pub accepted_then : (n wait : ℕ) (b c d : B) (answer : Result (Unit {0}) Refusal) → state_of (states b) i ≡ Some (waiting wait s) → Later k n b c → n ≡ wait → Accepted k c i answer d → answer ≡ Ok tt
@@ -66,7 +66,7 @@ module _ {B : Type 0} (k : Kind B) (states : B → List State) (table : Tabled k
       let whole : wait ≡ n + 0 = omega arith in
       let now = waits_down n 0 run (e ∙ ap (λ (w : ℕ). Some (waiting w s)) whole) in
       let found = table.records c i ∙ ap (option_map (λ (s : State). s.stream)) now in
-      let free = idle_is_open (states c) i (waiting 0 s) now (omega arith) in
+      let free = idle_is_open (λ r. r) (states c) i (waiting 0 s) now (omega arith) in
       (accepted.taken s.stream found (omega (arith, table.opening c i))).0
 
 -- 4,294,967,296 is 4 modulo 6, so phase 2 is 4 ticks away

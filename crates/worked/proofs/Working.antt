@@ -10,13 +10,11 @@ use Rattle.demand.specs.Demands.{demand}
 use Rattle.demand.specs.Shares.{normal_share, overrun_share, greatest, carrying}
 use Rattle.demand.specs.Verdicts.{Far}
 use Rattle.table.specs.Phases.{Until, phase_of}
-use Rattle.table.specs.Rasters.{raster, raster_states, phases_in}
-use Rattle.table.specs.Sporadics.{sporadic, states_in}
-use Rattle.table.specs.Tables.{state_of, waiting, closed}
-use Rattle.table.specs.declared.phasing.Raster.{Raster}
-use Rattle.table.specs.declared.shared.State.{State}
-use Rattle.table.specs.declared.spacing.Sporadic.{Sporadic}
+use Rattle.table.specs.Rasters.{raster, raster_states, phases_in, Raster}
+use Rattle.table.specs.Sporadics.{sporadic, states_in, Sporadic}
+use Rattle.table.specs.Tables.{state_of, waiting, closed, RecordState as State}
 use Rattle.table.specs.TablesLemmas.{state_of_set_same}
+use Rattle.table.proofs.Views.{raster_begun}
 use Rattle.worked.specs.Plans.{critical, background, rows, Pair, demands, verdict}
 use Rattle.worked.specs.Worked.{Worked}
 use Rattle.worked.proofs.Pairs.{two, Least, pair_demand, demand_pair, streams_pair, gaps_divide, reach_pair, accepts_pair, exceeds_pair}
@@ -74,7 +72,7 @@ closed_for_six bank b pair (s, is, e) =
     let first : Some w.first ≡ Some s = sym (ap (λ (xs : List State). state_of xs 1) w.is) ∙ is in
     let same : w.first ≡ s = cc in
     let gap : s.stream.row.gap ≡ 6 = sym (ap (λ (x : State). x.stream.row.gap) same) ∙ ap (λ (r : Row). r.gap) w.first_row in
-    (s, ap (λ (xs : List State). state_of xs 1) e ∙ state_of_set_same (states_in bank) 1 s (closed s) is ∙ ap (λ (n : ℕ). Some (waiting n s)) gap)
+    (s, ap (λ (xs : List State). state_of xs 1) e ∙ state_of_set_same (states_in bank) 1 s (closed (λ r. r) s) is ∙ ap (λ (n : ℕ). Some (waiting n s)) gap)
 
 -- begun, stream 1 waits for its phase
 one_state : (x : Row) (states : List State) → rows states ≡ x ∷ [] → (s : State) × (states ≡ s ∷ []) × (s.stream.row ≡ x)
@@ -86,7 +84,7 @@ four_to_phase : (bank b : Raster) → rows (raster_states bank) ≡ critical 4 2
 four_to_phase bank b row phase begins =
     let w = one_state (critical 4 2) (raster_states bank) row in
     let found : state_of (raster_states bank) 1 ≡ Some w.0 = ap (λ (xs : List State). state_of xs 1) w.1 in
-    let waits = begins.0.waits 1 w.0 found in
+    let waits = (raster_begun bank b 4294967296 begins).0.waits 1 w.0 found in
     let gap : w.0.stream.row.gap ≡ 6 = ap (λ (r : Row). r.gap) w.2 in
     let until : Until 4294967296 6 2 waits.0 = subst (λ (p : List ℕ). Until 4294967296 6 (phase_of p 1) waits.0) phase (subst (λ (g : ℕ). Until 4294967296 g (phase_of (phases_in bank) 1) waits.0) gap waits.2) in
     (w.0, waits.1 ∙ ap (λ (n : ℕ). Some (waiting n w.0)) (until_four waits.0 until))

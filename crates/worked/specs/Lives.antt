@@ -6,9 +6,8 @@ use Rattle.stream.specs.declared.Phase.TheVariants.{Normal, Overrun}
 use Rattle.stream.specs.declared.Row.{Row}
 use Rattle.stream.specs.declared.Verdict.{Verdict}
 use Rattle.stream.specs.declared.limits.Record.{Record}
-use Rattle.table.specs.Sporadics.{sporadic, states_in}
+use Rattle.table.specs.Sporadics.{sporadic, states_in, Sporadic}
 use Rattle.table.specs.Tables.{fresh as idle}
-use Rattle.table.specs.declared.spacing.Sporadic.{Sporadic}
 use Rattle.turns.specs.Runs.{Call, release, pick, settle, calm, Heard, refused, granted, named, Run}
 use Rattle.turns.specs.Steps.{Started, fresh}
 use Rattle.turns.specs.declared.State.{State}

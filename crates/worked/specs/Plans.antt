@@ -10,9 +10,8 @@ use Rattle.bank.specs.Kinds.{Kind}
 use Rattle.bank.specs.Runs.{Run, ticks}
 use Rattle.demand.specs.Demands.{demand}
 use Rattle.demand.specs.Verdicts.{Decided}
-use Rattle.table.specs.Sporadics.{sporadic, states_in}
-use Rattle.table.specs.declared.shared.State.{State}
-use Rattle.table.specs.declared.spacing.Sporadic.{Sporadic}
+use Rattle.table.specs.Sporadics.{sporadic, states_in, Sporadic}
+use Rattle.table.specs.Tables.{RecordState as State}
 use Rattle.turns.specs.Jobs.{released}
 use Rattle.turns.specs.Steps.{fresh, with_job}
 use Rattle.turns.specs.declared.State.{State as Worker}

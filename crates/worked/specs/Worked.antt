@@ -9,10 +9,8 @@ use Rattle.stream.specs.declared.Row.{Row}
 use Rattle.stream.specs.declared.Verdict.{Verdict}
 use Rattle.bank.specs.Accepting.{Accepted}
 use Rattle.demand.specs.Verdicts.{InReach, AcceptsAll, Exceeds, Refuses}
-use Rattle.table.specs.Rasters.{raster, raster_states, phases_in}
-use Rattle.table.specs.Sporadics.{sporadic}
-use Rattle.table.specs.declared.phasing.Raster.{Raster}
-use Rattle.table.specs.declared.spacing.Sporadic.{Sporadic}
+use Rattle.table.specs.Rasters.{raster, raster_states, phases_in, Raster}
+use Rattle.table.specs.Sporadics.{sporadic, Sporadic}
 use Rattle.turns.specs.Jobs.{released}
 use Rattle.turns.specs.Steps.{Next, after_turn, end_of, key}
 use Rattle.turns.specs.declared.End.TheVariants.{Finished, Switch}

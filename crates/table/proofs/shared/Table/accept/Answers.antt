@@ -1,4 +1,4 @@
-use Rattle.std.proofs.Common.{◌≡◌, ◌≤◌, Some, sym, ap, arith}
+use Rattle.std.proofs.Common.{◌≡◌, Some, sym, ap, ◌∙◌, arith}
 use Rattle.std.specs.Option.{option_map}
 use Rattle.table.specs.Tabled.{still}
 use Rattle.table.specs.Tables.{states_of, state_of}
@@ -8,19 +8,18 @@ use Rattle.table.specs.TablesLemmas.{state_numbered}
 use Rattle.table.proofs.shared.Table.accept.Goals as goal
 
 pub set_wait-requires : goal.set_wait-requires
-set_wait-requires c =
-    let at = state_numbered (states_of c.args.self.now) c.args.stream c.in-Some.state.now (sym c.in-Some.ensures) in
+set_wait-requires g c =
+    let is = sym c.state.ensures ∙ ap (option_map (λ x. x.now)) c.in_ok-state.ensures.ok_part in
+    let at = state_numbered (states_of c.args.self.now) c.args.stream c.in_ok-state.state.now is in
     omega arith
 
-pub returns : goal.returns
-returns c =
+pub returns-clause-answer : goal.returns-clause-answer
+returns-clause-answer g c =
+    let recorded = g.S.Timed.recorded in
     let states = states_of c.args.self.now in
     let i = c.args.stream in
-    let s = c.in-Some.state.now in
-    let is : state_of states i ≡ Some s = sym c.in-Some.ensures in
-    let idle : s.wait ≤ 0 = omega arith in
-    let closes = gap_closes states (states_of c.set_wait.new.self) i c.row-gap.result.gap s is (ap (λ r. r.gap) c.row-gap.ensures) c.set_wait.ensures.states in
-    record {
-      answer = open_accepted still c.args.self.now c.set_wait.new.self i s.stream (ap (option_map (λ s. s.stream)) is) (idle_is_open states i s is idle) closes;
-      size = c.set_wait.ensures.size;
-    }
+    let s = c.in_ok-state.state.now in
+    let is : state_of states i ≡ Some s = sym c.state.ensures ∙ ap (option_map (λ x. x.now)) c.in_ok-state.ensures.ok_part in
+    let gap = ap (λ r. r.gap) c.row-gap.ensures ∙ ap (λ r. r.row.gap) c.record.ensures in
+    let closes = gap_closes recorded states (states_of c.set_wait.new.self) i c.row-gap.result.gap s is gap c.set_wait.ensures.states in
+    open_accepted (still recorded) c.args.self.now c.set_wait.new.self i (recorded s.stream) (ap (option_map (λ s. recorded s.stream)) is) (idle_is_open recorded states i s is c.if-state-gt0.false) closes

@@ -1,0 +1,66 @@
+// Making and growing a timetable, and shortening its streams.
+
+ghost use Rattle.std.specs.Prelude.{◌≡◌, ◌≤◌, ◌<◌, [], length, IfOk, MatchResult};
+ghost use Rattle.stream.specs.declared.Refusal.TheVariants.{TooManyStreams};
+ghost use Rattle.table.specs.Growing.{Grown, GrownOn};
+ghost use Rattle.table.specs.Tables.{states_of};
+ghost use Rattle.table.specs.Shortening.{Shortening};
+
+use crate::phasing::OnRaster;
+use crate::shared::{MOST, Table};
+use crate::shortening::Shortfall;
+use crate::timed::Timed;
+use crate::timetable::Timetable;
+use std::alloc::{AllocError, Global};
+use stream::{Record, Refusal};
+
+impl<S: Timed> Timetable<S> {
+    pub fn new(heap: Global) -> Result<Timetable<S>, AllocError>
+        ensures { IfOk result (λ b. states_of b.table ≡ []) }
+    {
+        let table = Table::with_room(heap, MOST)?;
+        Ok(Timetable { table })
+    }
+
+    // Whether a stream more would be one too many.
+    fn has_room(&self) -> Result<(), Refusal>
+        ensures { MatchResult result (λ ok. length (states_of self.now.table) < 32) (λ e. (e ≡ TooManyStreams) × (32 ≤ length (states_of self.now.table))) }
+    {
+        if self.table.streams() >= MOST as u64 {
+            return Err(Refusal::TooManyStreams);
+        }
+        Ok(())
+    }
+
+    // Gives every critical stream a short deadline of so many thousandths of its deadline, if none would be below its budget.
+    pub fn shorten(&mut self, factor: u64) -> Result<(), Shortfall>
+        ensures { Shortening S.recorded S.alike factor self.old result self.new }
+    {
+        self.table.falls_short(factor)?;
+        self.table.shorten_all(factor);
+        Ok(())
+    }
+}
+
+impl Timetable<Record> {
+    // Adds a stream as the last one, if there are fewer than 32.
+    pub fn grow(&mut self, stream: Record) -> Result<(), Refusal>
+        ensures { Grown self.old stream result self.new }
+    {
+        self.has_room()?;
+        self.table.push(stream);
+        Ok(())
+    }
+}
+
+impl Timetable<OnRaster> {
+    // Adds a stream as the last one, if there are fewer than 32 and its phase is below its gap.
+    pub fn grow(&mut self, stream: Record, phase: u64) -> Result<(), Refusal>
+        ensures { GrownOn self.old stream phase result self.new }
+    {
+        self.has_room()?;
+        let timed = OnRaster::new(stream, phase)?;
+        self.table.push(timed);
+        Ok(())
+    }
+}
