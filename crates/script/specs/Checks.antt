@@ -13,8 +13,8 @@ use Rattle.table.specs.Sporadics.{sporadic}
 use Rattle.table.specs.declared.phasing.Raster.{Raster}
 use Rattle.table.specs.declared.spacing.Sporadic.{Sporadic}
 use Rattle.demand.specs.Verdicts.{Decided}
-use Rattle.script.specs.declared.plan.Start.{Start}
-use Rattle.script.specs.Plans.{Planned, Rows, no_rows, rows_in, tables_of}
+use Rattle.plan.specs.declared.reading.Start.{Start}
+use Rattle.plan.specs.Plans.{Planned, Rows, no_rows, rows_in, tables_of}
 
 -- Only stream lines are wanted: a fault in them is a refusal, and so is a go line, which is out of shape.
 abbrev pub streams_only : Result (Option Start) Fault → Result (Unit {0}) Refusal

@@ -1,0 +1,16 @@
+-- What an answer was before its refusal was given a place.
+
+use Rattle.std.proofs.Common.{◌≡◌, ℕ, Ok, Err, Result}
+use Rattle.stream.specs.Faults.{placed}
+use Rattle.stream.specs.declared.Fault.{Fault}
+use Rattle.stream.specs.declared.Layer.{Layer}
+use Rattle.stream.specs.declared.Refusal.{Refusal}
+
+module _ {X : Type 0} (layer : Layer) (line : ℕ) where
+  pub placed_ok : (answer : Result X Refusal) (x : X) → placed answer layer line ≡ Ok x → answer ≡ Ok x
+  placed_ok (Ok y) x e = cc
+  placed_ok (Err f) x e = cc
+
+  pub placed_err : (answer : Result X Refusal) (fault : Fault) → placed answer layer line ≡ Err fault → (answer ≡ Err fault.refusal) × (fault ≡ record { refusal = fault.refusal; layer = layer; line = line; byte = 0 })
+  placed_err (Ok y) fault e = let no : ⊥ = cc in absurd no
+  placed_err (Err f) fault e = (cc, (cc))
