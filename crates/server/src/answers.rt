@@ -21,10 +21,9 @@ pub(crate) fn answer_to(
         Err(fault) => answers.tell(Answer::Refused(fault)),
         Ok(opening) => {
             let counts = opening.engine.report().counts;
-            let last = (reader.expect_end()).map_or_else(
-                Answer::Refused,
-                |_| Answer::Total(counts),
-            );
+            let last = reader
+                .expect_end()
+                .map_or_else(Answer::Refused, |_| Answer::Total(counts));
             answers.tell(Answer::Accepted(opening.verdict))?;
             answers.tell(last)
         }
