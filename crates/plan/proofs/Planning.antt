@@ -9,7 +9,8 @@ use Rattle.text.specs.declared.line.Line.{Line}
 use Rattle.text.specs.declared.line.Line.TheVariants.{Go}
 use Rattle.text.specs.declared.reader.Reader.{Reader}
 use Rattle.plan.specs.declared.reading.Start.{Start}
-use Rattle.plan.specs.Plans.{Rows, Added, Misshapen, Planned, ended, go, misshapen, refused, more, plan_fault}
+use Rattle.plan.specs.declared.tables.Tables.{Tables}
+use Rattle.plan.specs.Plans.{Rows, rows_in, Added, Misshapen, Planned, ended, go, misshapen, refused, more, plan_fault}
 
 -- the first byte that no line of the form has there
 pub misshapen_by : {form : List ℕ → Type 0} {before later : Reader} {fault : Fault} → RefusedBy form before fault later → Misshapen form (bytes_left before) (line_number before) fault
@@ -20,6 +21,9 @@ pub record Read (before later : Reader) (rows : Rows) (answer : Result (Unit {0}
   pub stream : Line
   pub line : LineRead before stream later
   pub added : Added rows stream answer next
+
+pub read_as : {before later : Reader} {rows : Rows} {line stream : Line} {answer given : Result (Unit {0}) Refusal} {next after : Tables} → LineRead before line later → line ≡ stream → answer ≡ given → next ≡ after → Added rows stream given (rows_in after) → Read before later rows answer (rows_in next)
+read_as {stream = stream} read is answered left added = record { stream = stream; line = rw is at read; added = rw (answered, left) added }
 
 module _ (before later : Reader) (rows : Rows) where
   pub plan_ended : length (bytes_left before) ≡ 0 → Planned (bytes_left before) (line_number before) rows (Ok None) (bytes_left before) (line_number before) rows

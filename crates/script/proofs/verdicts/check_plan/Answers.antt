@@ -1,13 +1,12 @@
-use Rattle.std.proofs.Common.{Err, sym, ap, ◌∙◌}
-use Rattle.std.proofs.lemmas.Result.{err_from_is_err_and}
+use Rattle.std.proofs.Common.{sym, ◌∙◌}
+use Rattle.plan.proofs.Placing.{handed_on}
 use Rattle.script.specs.Checks.{unfit, tested}
 use Rattle.script.proofs.verdicts.check_plan.Goals as goal
 
 pub returns-in_err-streams_only : goal.returns-in_err-streams_only
 returns-in_err-streams_only c empty =
-    let p = err_from_is_err_and c.from_residual.result c.from_residual.ensures.1 in
     let planned = simp (c.new-reader.ensures.text, c.new-reader.ensures.line, empty) at c.read_plan.ensures in
-    rw (p.1 ∙ ap Err p.2) (unfit planned (sym c.streams_only.ensures ∙ c.in_err-streams_only.was))
+    rw (handed_on c.from_residual.result c.in_err-streams_only.field-0.0 c.from_residual.ensures.1) (unfit planned (sym c.streams_only.ensures ∙ c.in_err-streams_only.was))
 
 pub returns : goal.returns
 returns c empty =

@@ -1,7 +1,7 @@
-use Rattle.std.proofs.Common.{Err, ap, ◌∙◌, ◌<◌, ◌≤◌, ⊎_elim, arith}
+use Rattle.std.proofs.Common.{◌<◌, ◌≤◌, ⊎_elim, arith}
 use Rattle.std.proofs.lemmas.Bool.{cases_lt}
-use Rattle.std.proofs.lemmas.Result.{err_from_is_err_and}
 use Rattle.plan.specs.Plans.{raster_full, raster_unfit, raster_unphased, raster_added}
+use Rattle.plan.proofs.Placing.{handed_on}
 use Rattle.plan.proofs.tables.Tables.add_raster.Goals as goal
 
 pub returns-then-streams-ge-MOST_STREAMS : goal.returns-then-streams-ge-MOST_STREAMS
@@ -9,8 +9,7 @@ returns-then-streams-ge-MOST_STREAMS c = raster_full (omega arith)
 
 pub returns-in_err-record : goal.returns-in_err-record
 returns-in_err-record c =
-    let p = err_from_is_err_and c.from_residual.result c.from_residual.ensures.1 in
-    rw (p.1 ∙ ap Err p.2) (raster_unfit (omega arith) c.in_err-record.ensures)
+    rw (handed_on c.from_residual.result c.in_err-record.field-0.0 c.from_residual.ensures.1) (raster_unfit (omega arith) c.in_err-record.ensures)
 
 pub returns : goal.returns
 returns c =

@@ -1,6 +1,6 @@
-use Rattle.std.proofs.Common.{Err, ap, ◌∙◌, arith}
-use Rattle.std.proofs.lemmas.Result.{err_from_is_err_and}
+use Rattle.std.proofs.Common.{arith}
 use Rattle.plan.specs.Plans.{sporadic_full, sporadic_disordered, sporadic_unfit, sporadic_added}
+use Rattle.plan.proofs.Placing.{handed_on}
 use Rattle.plan.proofs.tables.Tables.add_sporadic.Goals as goal
 
 pub returns-then-streams-ge-MOST_STREAMS : goal.returns-then-streams-ge-MOST_STREAMS
@@ -11,8 +11,7 @@ returns-then-streams-gt0 c = sporadic_disordered (omega arith) (omega arith)
 
 pub returns-in_err-record : goal.returns-in_err-record
 returns-in_err-record c =
-    let p = err_from_is_err_and c.from_residual.result c.from_residual.ensures.1 in
-    rw (p.1 ∙ ap Err p.2) (sporadic_unfit (omega arith) (omega arith) c.in_err-record.ensures)
+    rw (handed_on c.from_residual.result c.in_err-record.field-0.0 c.from_residual.ensures.1) (sporadic_unfit (omega arith) (omega arith) c.in_err-record.ensures)
 
 pub returns : goal.returns
 returns c =
