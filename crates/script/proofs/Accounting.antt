@@ -17,7 +17,7 @@ use Rattle.text.specs.declared.answer.Answer.TheVariants.{Refused, Took, Ran, Ca
 use Rattle.text.specs.declared.call.Call.{Call}
 use Rattle.text.specs.declared.call.Call.TheVariants.{Release, Turn, Calm}
 use Rattle.script.specs.Accounts.{heard_answer, heard_line, Logged, last, line, Accounted}
-use Rattle.script.specs.Performing.{told, turn_given, Performed}
+use Rattle.script.specs.Performing.{telling, told, turn_given, Performed}
 use Rattle.script.specs.Playing.{Played, finished, broken, called}
 
 clash : {X : Type 0} → {e : Refusal} → ◌≡◌ {A = Option Refusal} (Some e) None → X
@@ -29,13 +29,13 @@ no_total was = let z : ◌≡◌ {A = ℕ} 0 1 = cc in absurd (let w : ⊥ = ome
 same_counts : {n m : Counts} → Total n ≡ Total m → m ≡ n
 same_counts e = cc
 
-heard_told : (tell : Unit {0} → Answer) (at : ℕ) (r : Result (Unit {0}) Refusal) → ((x : Unit {0}) → heard_answer (tell x) ≡ granted) → heard_answer (told tell at r) ≡ heard r
+heard_told : (tell : Unit {0} → Answer) (at : ℕ) (g : Result (Unit {0}) Refusal) → ((x : Unit {0}) → heard_answer (tell x) ≡ granted) → heard_answer (told at (telling tell g)) ≡ heard g
 heard_told tell at (Ok x) h = h x
 heard_told tell at (Err e) h = refl
 
 module _ {S : Type 0} (k : Kind S) where
   -- a slip that is void cannot be settled, and one that is not can
-  turn_run : (b c d : S) (s mid t u : State) (done : Bool) (at : ℕ) (slip : Option Refusal) (settled : Result Settled Refusal) (log : List (Act × Heard)) → Picked s slip mid → TurnSettled k b mid slip done settled c t → Run k c t log d u → Run k b s (heard_line (Turn done) (told Ran at (turn_given slip settled)) ++ log) d u
+  turn_run : (b c d : S) (s mid t u : State) (done : Bool) (at : ℕ) (slip : Option Refusal) (settled : Result Settled Refusal) (log : List (Act × Heard)) → Picked s slip mid → TurnSettled k b mid slip done settled c t → Run k c t log d u → Run k b s (heard_line (Turn done) (told at (telling Ran (turn_given slip settled))) ++ log) d u
   turn_run b c d s mid t u done at (Some e) (Err f) log picked was run =
       step {c = b} {t = mid} (Some e, picked, refl, refl) (step {c = c} {t = t} (Err f, was, refl) run)
   turn_run b c d s mid t u done at (Some e) (Ok answer) log picked was run = clash was.0
@@ -46,12 +46,12 @@ module _ {S : Type 0} (k : Kind S) where
       step {c = b} {t = mid} (None, picked, refl, refl) (step {c = c} {t = t} (Ok (HadBy i how), was, refl) run)
 
   line_run : (b c d : S) (s t u : State) (call : Call) (at : ℕ) (answer : Answer) (log : List (Act × Heard)) → Performed k b s call at answer c t → Run k c t log d u → Run k b s (heard_line call answer ++ log) d u
-  line_run b c d s t u (Release i) at answer log (r, was, e) run =
-      step {c = c} {t = t} (r, was, ap heard_answer e ∙ heard_told (λ (x : Unit {0}). Took i) at r (λ x. refl)) run
-  line_run b c d s t u (Turn done) at answer log (r, (slip, mid, settled, picked, was, given), e) run =
-      subst (λ (a : Answer). Run k b s (heard_line (Turn done) a ++ log) d u) (sym (e ∙ ap (told Ran at) given)) (turn_run b c d s mid t u done at slip settled log picked was run)
-  line_run b c d s t u Calm at answer log (r, was, same, e) run =
-      step {c = c} {t = t} (r, was, same, ap heard_answer e ∙ heard_told (λ (x : Unit {0}). CalmAt t.moment) at r (λ x. refl)) run
+  line_run b c d s t u (Release i) at answer log (r, (g, was, gave), e) run =
+      step {c = c} {t = t} (g, was, ap heard_answer (e ∙ ap (told at) gave) ∙ heard_told (λ (x : Unit {0}). Took i) at g (λ x. refl)) run
+  line_run b c d s t u (Turn done) at answer log (r, (g, (slip, mid, settled, picked, was, given), gave), e) run =
+      subst (λ (a : Answer). Run k b s (heard_line (Turn done) a ++ log) d u) (sym (e ∙ ap (told at) (gave ∙ ap (telling Ran) given))) (turn_run b c d s mid t u done at slip settled log picked was run)
+  line_run b c d s t u Calm at answer log (r, (g, was, same, gave), e) run =
+      step {c = c} {t = t} (g, was, same, ap heard_answer (e ∙ ap (told at) gave) ∙ heard_told (λ (x : Unit {0}). CalmAt t.moment) at g (λ x. refl)) run
 
   abbrev Ran_as : S → State → List ℕ → List Answer → Type 0
   Ran_as b s text answers = (log : List (Act × Heard)) × (final : Answer) × (c : S) × (t : State) × Logged text answers log final × Run k b s log c t × ((counts : Counts) → final ≡ Total counts → counts ≡ counts_of t)

@@ -1,3 +1,2 @@
-pub mod Planning
 pub mod Accounting
 pub mod Scripts

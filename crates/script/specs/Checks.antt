@@ -11,8 +11,8 @@ use Rattle.join.specs.declared.Joined.{Joined}
 use Rattle.table.specs.Rasters.{raster, Raster}
 use Rattle.table.specs.Sporadics.{sporadic, Sporadic}
 use Rattle.demand.specs.Verdicts.{Decided}
-use Rattle.script.specs.declared.plan.Start.{Start}
-use Rattle.script.specs.Plans.{Planned, Rows, no_rows, rows_in, tables_of}
+use Rattle.plan.specs.declared.reading.Start.{Start}
+use Rattle.plan.specs.Plans.{Planned, Rows, no_rows, rows_in, tables_of}
 
 -- Only stream lines are wanted: a fault in them is a refusal, and so is a go line, which is out of shape.
 abbrev pub streams_only : Result (Option Start) Fault → Result (Unit {0}) Refusal

@@ -1,4 +1,3 @@
-pub mod Plans
 pub mod Performing
 pub mod Playing
 pub mod Accounts

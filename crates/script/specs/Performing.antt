@@ -16,10 +16,15 @@ use Rattle.text.specs.declared.call.Call.TheVariants.{Release, Turn, Calm}
 abbrev pub refused_at : ℕ → Refusal → Answer
 refused_at line e = Refused (record { refusal = e; layer = Engine; line = line; byte = 0 })
 
--- a call is answered by what it gave, or by its refusal
-abbrev pub told : {X : Type 0} → (X → Answer) → ℕ → Result X Refusal → Answer
-told tell line (Ok x) = tell x
-told tell line (Err e) = refused_at line e
+-- a call tells what it gave, unless it was refused
+abbrev pub telling : {X : Type 0} → (X → Answer) → Result X Refusal → Result Answer Refusal
+telling tell (Ok x) = Ok (tell x)
+telling tell (Err e) = Err e
+
+-- and its answer is that, or the refusal at its line
+abbrev pub told : ℕ → Result Answer Refusal → Answer
+told line (Ok answer) = answer
+told line (Err e) = refused_at line e
 
 -- what a turn gave: a void slip tells why it is void
 abbrev pub turn_given : Option Refusal → Result Settled Refusal → Result Settled Refusal
@@ -31,7 +36,11 @@ abbrev pub TurnTaken : {S : Type 0} → Kind S → S → State → Bool → Resu
 TurnTaken k b s done r c t =
     (slip : Option Refusal) × (mid : State) × (settled : Result Settled Refusal) × Picked s slip mid × TurnSettled k b mid slip done settled c t × (r ≡ turn_given slip settled)
 
+-- what a call gives
+abbrev pub Given : {S : Type 0} → Kind S → S → State → Call → Result Answer Refusal → S → State → Type 0
+Given k b s (Release i) r c t = (g : Result (Unit {0}) Refusal) × Released k b s i g c t × (r ≡ telling (λ (x : Unit {0}). Took i) g)
+Given k b s (Turn done) r c t = (g : Result Settled Refusal) × TurnTaken k b s done g c t × (r ≡ telling Ran g)
+Given k b s Calm r c t = (g : Result (Unit {0}) Refusal) × Calmed s g t × (c ≡ b) × (r ≡ telling (λ (x : Unit {0}). CalmAt t.moment) g)
+
 abbrev pub Performed : {S : Type 0} → Kind S → S → State → Call → ℕ → Answer → S → State → Type 0
-Performed k b s (Release i) line answer c t = (r : Result (Unit {0}) Refusal) × Released k b s i r c t × (answer ≡ told (λ (x : Unit {0}). Took i) line r)
-Performed k b s (Turn done) line answer c t = (r : Result Settled Refusal) × TurnTaken k b s done r c t × (answer ≡ told Ran line r)
-Performed k b s Calm line answer c t = (r : Result (Unit {0}) Refusal) × Calmed s r t × (c ≡ b) × (answer ≡ told (λ (x : Unit {0}). CalmAt t.moment) line r)
+Performed k b s call line answer c t = (r : Result Answer Refusal) × Given k b s call r c t × (answer ≡ told line r)

@@ -6,23 +6,18 @@ use Rattle.bank.specs.Kinds.{Kind}
 use Rattle.engine.specs.Reports.{counts_of}
 use Rattle.turns.specs.declared.State.{State}
 use Rattle.text.specs.Calls.{call_bytes, ValidCall, CallForm}
-use Rattle.text.specs.Shown.{answer_line}
 use Rattle.text.specs.declared.answer.Answer.{Answer}
 use Rattle.text.specs.declared.answer.Answer.TheVariants.{Refused, Total}
 use Rattle.text.specs.declared.call.Call.{Call}
 use Rattle.script.specs.Performing.{Performed}
-use Rattle.script.specs.Plans.{Misshapen}
+use Rattle.plan.specs.Plans.{Misshapen}
+use Rattle.plan.specs.Written.{lines_of}
 
 -- From what is left of the text, the number of its first line, the bank and the worker, to the answers: the counts at the end of the text, or a fault and nothing more.
 pub data Played {S : Type 0} (k : Kind S) : List ℕ → ℕ → S → State → List Answer → Type 0 where
   finished : {line : ℕ} {b : S} {s : State} → Played k [] line b s (Total (counts_of s) ∷ [])
   broken : {text : List ℕ} {line : ℕ} {b : S} {s : State} {fault : Fault} → (text ≢ []) → Misshapen CallForm text line fault → Played k text line b s (Refused fault ∷ [])
   called : {text rest : List ℕ} {line : ℕ} {b c : S} {s t : State} {answer : Answer} {answers : List Answer} (call : Call) → ValidCall call → text ≡ call_bytes call ++ rest → Performed k b s call line answer c t → Played k rest (line + 1) c t answers → Played k text line b s (answer ∷ answers)
-
--- each answer in a line of its own
-abbrev pub lines_of : List Answer → List ℕ
-lines_of [] = []
-lines_of (answer ∷ answers) = (answer_line answer ++ 10 ∷ []) ++ lines_of answers
 
 -- what was written before is followed by the lines of the answers
 abbrev pub Wrote : {S : Type 0} → Kind S → List ℕ → ℕ → S → State → List ℕ → List ℕ → Type 0

@@ -1,4 +1,4 @@
--- What replay writes for a text.
+-- What play writes for a text.
 
 use Rattle.std.specs.Prelude.{◌≡◌, ℕ, List, [], ◌∷◌}
 use Rattle.stream.specs.declared.Fault.{Fault}
@@ -10,9 +10,11 @@ use Rattle.table.specs.Sporadics.{sporadic, Sporadic}
 use Rattle.text.specs.declared.answer.Answer.{Answer}
 use Rattle.text.specs.declared.answer.Answer.TheVariants.{Accepted, Refused}
 use Rattle.turns.specs.declared.State.{State}
+use Rattle.plan.specs.Openings.{Opened, Unopened}
+use Rattle.plan.specs.Plans.{no_rows}
+use Rattle.plan.specs.Written.{lines_of}
 use Rattle.script.specs.Accounts.{Accounted}
-use Rattle.script.specs.Plans.{Unopened, Opened, no_rows}
-use Rattle.script.specs.Playing.{Played, lines_of}
+use Rattle.script.specs.Playing.{Played}
 
 -- A plan that is refused is answered by its fault. One that is accepted is followed by the answers to the script, and its account is lawful.
 pub data Answered (text : List ℕ) : List Answer → Type 0 where

@@ -7,16 +7,15 @@ ghost use Rattle.script.specs.Checks.{Checked};
 ghost use Rattle.script.specs.Replays.{Replayed};
 
 mod answers;
-mod plan;
 mod script;
 mod verdicts;
 
-use answers::{Answers, answer_to};
-use plan::Tables;
+use answers::answer_to;
+use plan::{Answers, Tables};
 use std::alloc::{AllocError, Global};
 use verdicts::{check_plan, number_of};
 
-// What check answers for want of memory.
+// What check answers for want of memory. It is a number, and check's answer signed, since the C interface has one number for every answer.
 const NO_MEMORY: i64 = -1;
 
 // Reads a plan, judges it and runs the script after it, one answer to a line.
@@ -24,18 +23,16 @@ pub fn play(heap: Global, text: &[u8]) -> Result<String, AllocError>
     ensures { IfOk result (λ s. Replayed text.now (string_bytes s)) }
 {
     let tables = Tables::new(heap)?;
-    let mut answers = Answers::new(heap);
+    let mut answers = Answers {
+        lines: String::new(heap),
+    };
     answer_to(text, tables, &mut answers)?;
-    let Answers { heap: _, lines } = answers;
-    Ok(lines)
+    Ok(answers.lines)
 }
 
 // Whether a plan of stream lines alone may run: 0 if it may, else the number of its refusal; -1 for want of memory.
 pub fn check(heap: Global, text: &[u8]) -> i64
     ensures { Checked text.now result }
 {
-    match Tables::new(heap) {
-        Ok(tables) => number_of(check_plan(text, tables)),
-        Err(_) => NO_MEMORY,
-    }
+    Tables::new(heap).map_or(NO_MEMORY, |tables| number_of(check_plan(text, tables)))
 }

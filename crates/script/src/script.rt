@@ -2,14 +2,14 @@
 
 ghost use Rattle.std.specs.Prelude.{◌≡◌, string_bytes, OnOk};
 ghost use Rattle.text.specs.Reader.{bytes_left, line_number};
-ghost use Rattle.script.specs.Performing.{Performed, TurnTaken, refused_at};
+ghost use Rattle.script.specs.Performing.{Given, Performed, TurnTaken};
 ghost use Rattle.script.specs.Playing.{Wrote};
 
-use crate::answers::Answers;
 use bank::Bank;
 use engine::Engine;
+use plan::Answers;
 use std::alloc::AllocError;
-use stream::{Fault, Layer, Refusal};
+use stream::{Layer, Refusal, at_line};
 use text::{Answer, Call, Reader};
 use turns::Settled;
 
@@ -20,40 +20,31 @@ fn take_turn<B: Bank>(engine: &mut Engine<B>, done: bool) -> Result<Settled, Ref
     let slip = engine.pick();
     let void = slip.refusal();
     let settled = engine.settle(slip, done);
-    match void {
-        Some(refusal) => Err(refusal),
-        None => settled,
+    void.map_or(settled, Err)
+}
+
+// What a call gives to be told, unless it is refused.
+fn call_engine<B: Bank>(engine: &mut Engine<B>, call: Call) -> Result<Answer, Refusal>
+    ensures { Given B.kind engine.old.bank engine.old.state call result engine.new.bank engine.new.state }
+{
+    match call {
+        Call::Release(stream) => {
+            engine.release(stream)?;
+            Ok(Answer::Took(stream))
+        }
+        Call::Turn(done) => Ok(Answer::Ran(take_turn(engine, done)?)),
+        Call::Calm => {
+            engine.calm()?;
+            Ok(Answer::Calm(engine.moment()))
+        }
     }
 }
 
-fn refused(refusal: Refusal, line: u64) -> Answer
-    ensures { result ≡ refused_at line refusal }
-{
-    Answer::Refused(Fault {
-        refusal,
-        layer: Layer::Engine,
-        line,
-        byte: 0,
-    })
-}
-
+// A refused call is told at its line.
 fn perform<B: Bank>(engine: &mut Engine<B>, call: Call, line: u64) -> Answer
     ensures { Performed B.kind engine.old.bank engine.old.state call line result engine.new.bank engine.new.state }
 {
-    match call {
-        Call::Release(stream) => match engine.release(stream) {
-            Ok(()) => Answer::Took(stream),
-            Err(refusal) => refused(refusal, line),
-        },
-        Call::Turn(done) => match take_turn(engine, done) {
-            Ok(settled) => Answer::Ran(settled),
-            Err(refusal) => refused(refusal, line),
-        },
-        Call::Calm => match engine.calm() {
-            Ok(()) => Answer::Calm(engine.moment()),
-            Err(refusal) => refused(refusal, line),
-        },
-    }
+    at_line(call_engine(engine, call), Layer::Engine, line).unwrap_or_else(Answer::Refused)
 }
 
 // Performs the calls up to the end of the text and then tells the counts, or up to the first fault in the text and tells that.

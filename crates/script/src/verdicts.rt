@@ -1,11 +1,11 @@
 // Whether a plan may run, told by a number alone.
 
 ghost use Rattle.std.specs.Prelude.{◌≡◌};
+ghost use Rattle.plan.specs.Plans.{no_rows, rows_in};
 ghost use Rattle.script.specs.Checks.{Found, streams_only, told};
-ghost use Rattle.script.specs.Plans.{no_rows, rows_in};
 
-use crate::plan::{Start, Tables, read_plan};
 use demand::admit;
+use plan::{Start, Tables, read_plan};
 use stream::{Fault, Refusal, Verdict};
 use text::Reader;
 
@@ -13,10 +13,9 @@ use text::Reader;
 fn streams_only(read: Result<Option<Start>, Fault>) -> Result<(), Refusal>
     ensures { result ≡ streams_only read }
 {
-    match read {
-        Ok(None) => Ok(()),
-        Ok(Some(_)) => Err(Refusal::OutOfShape),
-        Err(fault) => Err(fault.refusal),
+    match read.map_err(|fault| fault.refusal)? {
+        None => Ok(()),
+        Some(_) => Err(Refusal::OutOfShape),
     }
 }
 
@@ -33,8 +32,5 @@ pub(crate) fn check_plan(text: &[u8], mut tables: Tables) -> Result<Verdict, Ref
 pub(crate) fn number_of(answer: Result<Verdict, Refusal>) -> i64
     ensures { result ≡ told answer }
 {
-    match answer {
-        Ok(_) => 0,
-        Err(refusal) => u64::from(refusal) as i64,
-    }
+    answer.map_or_else(|refusal| u64::from(refusal) as i64, |_| 0)
 }

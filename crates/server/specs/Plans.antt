@@ -1,97 +1,32 @@
--- How a plan is read: stream lines, each looked at whole and tested before the next is looked at, up to the go line.
+-- How a plan is judged, once it is read.
 
-use Rattle.std.specs.Prelude.{◌≡◌, ℕ, ◌+◌, ◌<◌, ◌≤◌, List, [], ◌∷◌, ◌++◌, map, length, Ok, Err, Result}
+use Rattle.std.specs.Prelude.{◌≡◌, ℕ, ◌<◌, ◌≤◌, List, map, Some, None, Ok, Err, Result}
 use Rattle.stream.specs.Faults.{placed}
-use Rattle.stream.specs.Making.{Made}
 use Rattle.stream.specs.declared.Fault.{Fault}
-use Rattle.stream.specs.declared.Layer.TheVariants.{Plan, Demand, Engine}
+use Rattle.stream.specs.declared.Layer.TheVariants.{Demand, Engine}
 use Rattle.stream.specs.declared.Refusal.{Refusal}
-use Rattle.stream.specs.declared.Refusal.TheVariants.{TooManyStreams, SporadicAfterRaster, PhaseOutOfLimits, MomentTooLate}
-use Rattle.stream.specs.declared.Row.{Row}
+use Rattle.stream.specs.declared.Refusal.TheVariants.{MomentTooLate}
 use Rattle.stream.specs.declared.Verdict.{Verdict}
-use Rattle.stream.specs.declared.limits.Record.{Record}
 use Rattle.join.specs.Joins.{joined}
 use Rattle.join.specs.declared.Joined.{Joined}
 use Rattle.table.specs.Phases.{Aligned}
-use Rattle.table.specs.Rasters.{raster, raster_states, phases_in, Raster as Raster'}
-use Rattle.table.specs.Sporadics.{sporadic, states_in, Sporadic as Sporadic'}
-use Rattle.table.specs.Tables.{fresh, opened, RecordState as State}
-use Rattle.text.specs.Lines.{render, Valid, LineForm}
+use Rattle.table.specs.Rasters.{raster, raster_states, Raster}
+use Rattle.table.specs.Sporadics.{sporadic, states_in, Sporadic}
+use Rattle.table.specs.Tables.{opened}
 use Rattle.text.specs.Places.{out_of_shape}
-use Rattle.text.specs.Words.{Halts}
-use Rattle.text.specs.declared.line.Line.{Line}
-use Rattle.text.specs.declared.line.Line.TheVariants.{Sporadic, Raster, Go}
 use Rattle.demand.specs.Verdicts.{Judged}
-use Rattle.server.specs.declared.plan.Start.{Start}
-use Rattle.server.specs.declared.plan.Tables.{Tables}
-
--- a refusal of the plan at a line
-abbrev pub plan_fault : Refusal → ℕ → Fault
-plan_fault e line = record { refusal = e; layer = Plan; line = line; byte = 0 }
-
--- The streams of a plan as far as it is read: the sporadic ones, and those on a raster with their phases.
-pub record Rows : Type 0 where
-  pub spaced : List State
-  pub aligned : List State
-  pub phases : List ℕ
-
-abbrev pub rows_in : Tables → Rows
-rows_in t = record { spaced = states_in t.sporadic; aligned = raster_states t.raster; phases = phases_in t.raster }
-
-abbrev pub no_rows : Rows
-no_rows = record { spaced = []; aligned = []; phases = [] }
-
-abbrev pub size : Rows → ℕ
-size rows = length rows.spaced + length rows.aligned
-
-abbrev pub with_sporadic : Rows → Record → Rows
-with_sporadic rows stream = record { spaced = rows.spaced ++ fresh stream ∷ []; aligned = rows.aligned; phases = rows.phases }
-
-abbrev pub with_raster : Rows → Record → ℕ → Rows
-with_raster rows stream phase = record { spaced = rows.spaced; aligned = rows.aligned ++ fresh stream ∷ []; phases = rows.phases ++ phase ∷ [] }
-
--- A sporadic stream line: refused as the 33rd stream, after a raster line, or by the first limit that it breaks, and then nothing changes; else the stream is added last.
-pub data AddedSporadic (before : Rows) (row : Row) (line : ℕ) : Result (Unit {0}) Fault → Rows → Type 0 where
-  sporadic_full : 32 ≤ size before → AddedSporadic before row line (Err (plan_fault TooManyStreams line)) before
-  sporadic_disordered : size before < 32 → 0 < length before.aligned → AddedSporadic before row line (Err (plan_fault SporadicAfterRaster line)) before
-  sporadic_unfit : {e : Refusal} → size before < 32 → length before.aligned ≡ 0 → Made row (Err e) → AddedSporadic before row line (Err (plan_fault e line)) before
-  sporadic_added : (stream : Record) → size before < 32 → length before.aligned ≡ 0 → stream.row ≡ row → AddedSporadic before row line (Ok tt) (with_sporadic before stream)
-
--- A raster stream line: refused as the 33rd stream, by the first limit that it breaks, or for its phase.
-pub data AddedRaster (before : Rows) (row : Row) (phase line : ℕ) : Result (Unit {0}) Fault → Rows → Type 0 where
-  raster_full : 32 ≤ size before → AddedRaster before row phase line (Err (plan_fault TooManyStreams line)) before
-  raster_unfit : {e : Refusal} → size before < 32 → Made row (Err e) → AddedRaster before row phase line (Err (plan_fault e line)) before
-  raster_unphased : (stream : Record) → size before < 32 → stream.row ≡ row → row.gap ≤ phase → AddedRaster before row phase line (Err (plan_fault PhaseOutOfLimits line)) before
-  raster_added : (stream : Record) → size before < 32 → stream.row ≡ row → phase < row.gap → AddedRaster before row phase line (Ok tt) (with_raster before stream phase)
-
--- what a stream line answers
-abbrev pub Added : Rows → Line → ℕ → Result (Unit {0}) Fault → Rows → Type 0
-Added before (Sporadic row) line answer next = AddedSporadic before row line answer next
-Added before (Raster row phase) line answer next = AddedRaster before row phase line answer next
-Added before (Go moment) line answer next = ⊥
-
--- The first byte at which the text is no line any more.
-pub record Misshapen (text : List ℕ) (line : ℕ) (fault : Fault) : Type 0 where
-  pub read : List ℕ
-  pub unread : List ℕ
-  pub whole : text ≡ read ++ unread
-  pub place : fault ≡ out_of_shape line (length read + 1)
-  pub halts : Halts LineForm read unread
-
--- From a text, the number of its first line and the streams so far, to the answer, what is left of the text, the number of its first line, and the streams.
-pub data Planned : List ℕ → ℕ → Rows → Result Start Fault → List ℕ → ℕ → Rows → Type 0 where
-  go : {text rest : List ℕ} {line moment : ℕ} {rows : Rows} → Valid (Go moment) → text ≡ render (Go moment) ++ rest → Planned text line rows (Ok (record { moment = moment; line = line })) rest (line + 1) rows
-  misshapen : {text : List ℕ} {line : ℕ} {rows : Rows} {fault : Fault} → Misshapen text line fault → Planned text line rows (Err fault) text line rows
-  refused : {text rest : List ℕ} {line : ℕ} {rows next : Rows} {fault : Fault} (stream : Line) → Valid stream → text ≡ render stream ++ rest → Added rows stream line (Err fault) next → Planned text line rows (Err fault) rest (line + 1) next
-  more : {text rest last : List ℕ} {line end : ℕ} {rows next final : Rows} {answer : Result Start Fault} (stream : Line) → Valid stream → text ≡ render stream ++ rest → Added rows stream line (Ok tt) next → Planned rest (line + 1) next answer last end final → Planned text line rows answer last end final
+use Rattle.turns.specs.Steps.{last_moment}
+use Rattle.plan.specs.Plans.{Planned, Rows}
+use Rattle.plan.specs.declared.reading.Start.{Start}
 
 -- the join of the two tables, begun at a moment: sporadic streams wait for nothing, the others for the first moment of their phase
-pub record Begun (rows : Rows) (moment : ℕ) (bank : Joined Sporadic' Raster') : Type 0 where
+pub record Begun (rows : Rows) (moment : ℕ) (bank : Joined Sporadic Raster) : Type 0 where
   pub spaced : states_in bank.left ≡ map opened rows.spaced
   pub aligned : Aligned moment rows.phases rows.aligned (raster_states bank.right)
 
--- The plan is read; the moment is tested; then the bank begins and is tested. A fault of the test stands at the go line.
+-- The plan is read, and a text without a go line is out of shape where it ends; the moment is tested; then the bank begins and is tested. A fault of the test stands at the go line.
 pub data Opened (text : List ℕ) (line : ℕ) (rows : Rows) : Result Verdict Fault → List ℕ → ℕ → Type 0 where
   unread : {fault : Fault} {rest : List ℕ} {end : ℕ} {read : Rows} → Planned text line rows (Err fault) rest end read → Opened text line rows (Err fault) rest end
-  late : {start : Start} {rest : List ℕ} {end : ℕ} {read : Rows} → Planned text line rows (Ok start) rest end read → 1000000000000 < start.moment → Opened text line rows (Err (record { refusal = MomentTooLate; layer = Engine; line = start.line; byte = 0 })) rest end
-  tested : {start : Start} {rest : List ℕ} {end : ℕ} {read : Rows} (bank : Joined Sporadic' Raster') (answer : Result Verdict Refusal) → Planned text line rows (Ok start) rest end read → start.moment ≤ 1000000000000 → Begun read start.moment bank → Judged (joined sporadic raster) bank answer → Opened text line rows (placed answer Demand start.line) rest end
+  endless : {rest : List ℕ} {end : ℕ} {read : Rows} → Planned text line rows (Ok None) rest end read → Opened text line rows (Err (out_of_shape end 1)) rest end
+  late : {start : Start} {rest : List ℕ} {end : ℕ} {read : Rows} → Planned text line rows (Ok (Some start)) rest end read → last_moment < start.moment → Opened text line rows (Err (record { refusal = MomentTooLate; layer = Engine; line = start.line; byte = 0 })) rest end
+  tested : {start : Start} {rest : List ℕ} {end : ℕ} {read : Rows} (bank : Joined Sporadic Raster) (answer : Result Verdict Refusal) → Planned text line rows (Ok (Some start)) rest end read → start.moment ≤ last_moment → Begun read start.moment bank → Judged (joined sporadic raster) bank answer → Opened text line rows (placed answer Demand start.line) rest end

@@ -6,12 +6,10 @@ ghost use Rattle.std.specs.Prelude.{◌≡◌, IfOk, string_bytes};
 ghost use Rattle.server.specs.Replays.{Replayed};
 
 mod answers;
-mod plan;
 
 use answers::answer_to;
-use plan::Tables;
+use plan::{Answers, Tables};
 use std::alloc::{AllocError, Global};
-use table::{Raster, Sporadic};
 
 // The longest text, in bytes, that replay reads.
 pub const LONGEST_TEXT: u64 = 65536;
@@ -20,8 +18,10 @@ pub const LONGEST_TEXT: u64 = 65536;
 pub fn replay(heap: Global, text: &[u8]) -> Result<String, AllocError>
     ensures { IfOk result (λ s. Replayed text.now (string_bytes s)) }
 {
-    let sporadic = Sporadic::new(heap)?;
-    let raster = Raster::new(heap)?;
-    let answers = answer_to(text, Tables { sporadic, raster });
-    answers.to_text(heap)
+    let tables = Tables::new(heap)?;
+    let mut answers = Answers {
+        lines: String::new(heap),
+    };
+    answer_to(text, tables, &mut answers)?;
+    Ok(answers.lines)
 }

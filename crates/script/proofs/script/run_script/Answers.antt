@@ -2,16 +2,14 @@ use Rattle.std.proofs.Common.{length, string_bytes, sym, eqb-true}
 use borrow.Author.Tests.{eqb-false}
 use Rattle.std.proofs.lemmas.Result.{IfOk-weaker}
 use Rattle.text.specs.Reader.{bytes_left}
-use Rattle.script.proofs.Scripts.{script_finished, script_broken, script_called, call_shortens}
+use Rattle.script.proofs.Scripts.{script_finished, script_broken, script_called}
 use Rattle.script.proofs.script.run_script.Goals as goal
-
-pub loop-reader-smaller : goal.loop-reader-smaller
-loop-reader-smaller g c = call_shortens c.loop-reader.reader c.next.new.self c.in-Ok.call c.in-Ok.ensures.answer
 
 pub loop-reader-preserved : goal.loop-reader-preserved
 loop-reader-preserved g c after rest =
-    c.loop-reader.invariant after
-    (script_called g.B.Bank.kind c.loop-reader.reader c.next.new.self c.loop-reader.engine.bank c.loop-reader.engine.state (string_bytes c.loop-reader.answers.lines)
+    let l = c.loop-reader in
+    l.invariant after
+    (script_called g.B.Bank.kind l.reader c.next.new.self l.engine.bank l.engine.state (string_bytes l.answers.lines)
     c.in-Ok.call c.line_number-line.result c.perform.result c.perform.new.engine.bank c.perform.new.engine.state (string_bytes c.tell.new.self.lines) after
     c.in-Ok.ensures.answer c.line_number-line.ensures c.perform.ensures c.in_ok-tell-in-Ok.ensures rest)
 

@@ -1,0 +1,22 @@
+-- Refusals on their way: handed on by `?`, and given a place.
+
+use Rattle.std.proofs.Common.{◌≡◌, ℕ, Ok, Err, Result, ap, IsErrAnd}
+use Rattle.stream.specs.Faults.{placed}
+use Rattle.stream.specs.declared.Fault.{Fault}
+use Rattle.stream.specs.declared.Layer.{Layer}
+use Rattle.stream.specs.declared.Refusal.{Refusal}
+
+-- what the exit of a `?` returns
+pub handed_on : {X E : Type 0} (answer : Result X E) (e : E) → IsErrAnd answer (λ y. y ≡ e) → answer ≡ Err e
+handed_on (Ok x) e h = absurd h
+handed_on (Err y) e h = ap Err h
+
+-- what an answer was before its refusal was given a place
+module _ {X : Type 0} (layer : Layer) (line : ℕ) where
+  pub placed_ok : (answer : Result X Refusal) (x : X) → placed answer layer line ≡ Ok x → answer ≡ Ok x
+  placed_ok (Ok y) x e = cc
+  placed_ok (Err f) x e = cc
+
+  pub placed_err : (answer : Result X Refusal) (fault : Fault) → placed answer layer line ≡ Err fault → (answer ≡ Err fault.refusal) × (fault ≡ record { refusal = fault.refusal; layer = layer; line = line; byte = 0 })
+  placed_err (Ok y) fault e = let no : ⊥ = cc in absurd no
+  placed_err (Err f) fault e = (cc, (cc))

@@ -1,0 +1,58 @@
+// Starting what a plan says.
+
+ghost use Rattle.std.specs.Prelude.{◌≡◌, MatchResult};
+ghost use Rattle.text.specs.Places.{out_of_shape};
+ghost use Rattle.text.specs.Reader.{bytes_left, line_number};
+ghost use Rattle.plan.specs.Openings.{Opened, Unopened, start_layer};
+ghost use Rattle.plan.specs.Plans.{rows_in};
+
+use crate::Tables;
+use crate::reading::read_plan;
+use engine::Engine;
+use join::Joined;
+use stream::{Fault, Layer, Refusal, Verdict, at_line};
+use table::{Raster, Sporadic};
+use text::Reader;
+use turns::LAST_MOMENT;
+
+// An accepted plan: its verdict, and the engine that runs it.
+#[derive(Drop)]
+pub struct Opening {
+    pub verdict: Verdict,
+    pub engine: Engine<Joined<Sporadic, Raster>>,
+}
+
+// The text ends where a go line is due.
+fn without_go(line: u64) -> Fault
+    ensures { result ≡ out_of_shape line 1 }
+{
+    Fault {
+        refusal: Refusal::OutOfShape,
+        layer: Layer::Text,
+        line,
+        byte: 1,
+    }
+}
+
+// Who refuses a start.
+fn start_layer(moment: u64) -> Layer
+    ensures { result ≡ start_layer moment }
+{
+    if moment > LAST_MOMENT {
+        Layer::Engine
+    } else {
+        Layer::Demand
+    }
+}
+
+// Reads a plan up to its go line and starts what it says, or finds the first fault in it.
+pub fn open_plan(reader: &mut Reader, mut tables: Tables) -> Result<Opening, Fault>
+    ensures { MatchResult result (λ o. Opened (bytes_left reader.old) (line_number reader.old) (rows_in tables) o.verdict o.engine.bank o.engine.state (bytes_left reader.new) (line_number reader.new)) (λ fault. Unopened (bytes_left reader.old) (line_number reader.old) (rows_in tables) fault) }
+{
+    let Some(start) = read_plan(reader, &mut tables)? else {
+        return Err(without_go(reader.line_number()));
+    };
+    let engine = Engine::start(tables.into_bank(), start.moment);
+    let verdict = at_line(engine.verdict(), start_layer(start.moment), start.line)?;
+    Ok(Opening { verdict, engine })
+}

@@ -1,0 +1,68 @@
+// The streams of a plan, in the tables that its bank joins.
+
+ghost use Rattle.std.specs.Prelude.{◌≡◌, IfOk};
+ghost use Rattle.plan.specs.Plans.{AddedRaster, AddedSporadic, no_rows, rows_in, size, tables_of};
+
+use bank::Bank;
+use join::Joined;
+use std::alloc::{AllocError, Global};
+use stream::{Record, Refusal, Row};
+use table::{Raster, Sporadic};
+
+const MOST_STREAMS: u64 = 32;
+
+// The streams of a plan as far as it is read: the sporadic ones, then those on a raster.
+#[derive(Drop)]
+pub struct Tables {
+    sporadic: Sporadic,
+    raster: Raster,
+}
+
+impl Tables {
+    pub fn new(heap: Global) -> Result<Tables, AllocError>
+        ensures { IfOk result (λ t. rows_in t ≡ no_rows) }
+    {
+        let sporadic = Sporadic::new(heap)?;
+        let raster = Raster::new(heap)?;
+        Ok(Tables { sporadic, raster })
+    }
+
+    // A plan is judged as one bank.
+    pub fn into_bank(self) -> Joined<Sporadic, Raster>
+        ensures { tables_of result ≡ self }
+    {
+        let Tables { sporadic, raster } = self;
+        Joined::new(sporadic, raster)
+    }
+
+    fn streams(&self) -> u64
+        ensures { result ≡ size (rows_in self.now) }
+    {
+        self.sporadic.streams() + self.raster.streams()
+    }
+
+    // A sporadic stream more, unless there are 32 streams already, one on a raster came before, or its numbers break a limit.
+    pub(crate) fn add_sporadic(&mut self, row: Row) -> Result<(), Refusal>
+        ensures { AddedSporadic (rows_in self.old) row result (rows_in self.new) }
+    {
+        if self.streams() >= MOST_STREAMS {
+            return Err(Refusal::TooManyStreams);
+        }
+        if self.raster.streams() > 0 {
+            return Err(Refusal::SporadicAfterRaster);
+        }
+        let record = Record::new(row)?;
+        self.sporadic.grow(record)
+    }
+
+    // A stream on a raster more, unless there are 32 streams already or its numbers break a limit.
+    pub(crate) fn add_raster(&mut self, row: Row, phase: u64) -> Result<(), Refusal>
+        ensures { AddedRaster (rows_in self.old) row phase result (rows_in self.new) }
+    {
+        if self.streams() >= MOST_STREAMS {
+            return Err(Refusal::TooManyStreams);
+        }
+        let record = Record::new(row)?;
+        self.raster.grow(record, phase)
+    }
+}
