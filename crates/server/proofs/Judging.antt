@@ -11,6 +11,7 @@ use Rattle.join.specs.Joins.{joined}
 use Rattle.join.specs.declared.Joined.{Joined}
 use Rattle.table.specs.Rasters.{raster, Raster}
 use Rattle.table.specs.Sporadics.{sporadic, Sporadic}
+use Rattle.table.proofs.Views.{raster_begun, sporadic_begun}
 use Rattle.demand.specs.Verdicts.{Judged, Says}
 use Rattle.engine.specs.Reports.{counts_of}
 use Rattle.text.specs.Places.{out_of_shape}
@@ -37,7 +38,7 @@ module _ (text : List ℕ) (line : ℕ) (rows : Rows) where
       (λ (h : start.moment ≤ last_moment).
       let (begins, decided, is) = begun.begun h in
       rw (cond-false (nat_lt last_moment start.moment) Engine Demand (le-ltb last_moment start.moment h))
-      (tested b s.verdict planned h (record { spaced = begins.0; aligned = begins.1.0 }) (judged b s.verdict decided.says)))
+      (tested b s.verdict planned h (record { spaced = sporadic_begun bank.left b.left start.moment begins.0; aligned = (raster_begun bank.right b.right start.moment begins.1).0 }) (judged b s.verdict decided.says)))
       (cases_lt last_moment start.moment)
 
   pub refused : (fault : Fault) → Unopened text line rows fault → (rest : List ℕ) × (end : ℕ) × Opened text line rows (Err fault) rest end

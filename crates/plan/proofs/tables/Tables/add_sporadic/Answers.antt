@@ -1,4 +1,5 @@
 use Rattle.std.proofs.Common.{arith}
+use Rattle.table.proofs.Views.{raster_size}
 use Rattle.plan.specs.Plans.{sporadic_full, sporadic_disordered, sporadic_unfit, sporadic_added}
 use Rattle.plan.proofs.Placing.{handed_on}
 use Rattle.plan.proofs.tables.Tables.add_sporadic.Goals as goal
@@ -7,13 +8,13 @@ pub returns-then-streams-ge-MOST_STREAMS : goal.returns-then-streams-ge-MOST_STR
 returns-then-streams-ge-MOST_STREAMS c = sporadic_full (omega arith)
 
 pub returns-then-streams-gt0 : goal.returns-then-streams-gt0
-returns-then-streams-gt0 c = sporadic_disordered (omega arith) (omega arith)
+returns-then-streams-gt0 c = sporadic_disordered (omega arith) (omega (arith, raster_size c.args.self.now.raster))
 
 pub returns-in_err-record : goal.returns-in_err-record
 returns-in_err-record c =
-    rw (handed_on c.from_residual.result c.in_err-record.field-0.0 c.from_residual.ensures.1) (sporadic_unfit (omega arith) (omega arith) c.in_err-record.ensures)
+    rw (handed_on c.from_residual.result c.in_err-record.field-0.0 c.from_residual.ensures.1) (sporadic_unfit (omega arith) (omega (arith, raster_size c.args.self.now.raster)) c.in_err-record.ensures)
 
 pub returns : goal.returns
 returns c =
     let there = c.grow.ensures.added (omega arith) in
-    rw (there.0, there.1) (sporadic_added c.in_ok-record.record (omega arith) (omega arith) c.in_ok-record.ensures.holds)
+    rw (there.0, there.1) (sporadic_added c.in_ok-record.record (omega arith) (omega (arith, raster_size c.args.self.now.raster)) c.in_ok-record.ensures.holds)
