@@ -19,7 +19,7 @@ RowForm close = Form (row_bytes close) SmallRow
 
 -- ---- words and fields
 
-pub exactly_then : (M : List ℕ → Type 0) (bytes rest : List ℕ) → M rest → Then (Exactly bytes) M (bytes ++ rest)
+exactly_then : (M : List ℕ → Type 0) (bytes rest : List ℕ) → M rest → Then (Exactly bytes) M (bytes ++ rest)
 exactly_then M bytes rest m = record { front = bytes; back = rest; in_front = refl; in_back = m; joined = refl }
 
 field_then : (M : List ℕ → Type 0) (n : ℕ) (close rest : List ℕ) → Small n → M rest → Then (Field close) M (decimal n ++ (close ++ rest))

@@ -6,15 +6,17 @@ ghost use Rattle.text.specs.Reading.{ahead, Reads};
 
 use crate::cursor::{Cursor, Misfit};
 
-// A form of line: the bytes of its values, with their newline, and which values have a line. Nobody else can name a cursor, so the forms are those of this crate.
+// A form of line: the bytes of each value, with their newline, and which values have a line. All forms are of this crate, since nobody else can name a cursor.
 pub trait FromLine: Sized {
     ghost bytes: { Self → List ℕ };
 
     ghost valid: { Self → Type 0 };
 
+    // Where no line of the form comes, the cursor may stand anywhere.
     fn from_line(cursor: &mut Cursor) -> Result<Self, Misfit>
         ensures answer { Reads bytes valid (ahead cursor.old) result (ahead cursor.new) }
         ensures complete { AllRead bytes valid (ahead cursor.old) result };
 
+    // No line is empty.
     ghost some: { (value : Self) → 0 < length (bytes value) };
 }
