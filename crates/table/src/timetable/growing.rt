@@ -22,7 +22,7 @@ impl<S: Timed> Timetable<S> {
         Ok(Timetable { table })
     }
 
-    // Whether a stream more would be one too many.
+    // Refuses a stream more than there may be.
     fn has_room(&self) -> Result<(), Refusal>
         ensures { MatchResult result (λ ok. length (states_of self.now.table) < 32) (λ e. (e ≡ TooManyStreams) × (32 ≤ length (states_of self.now.table))) }
     {

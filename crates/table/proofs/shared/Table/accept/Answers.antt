@@ -1,17 +1,10 @@
-use Rattle.std.proofs.Common.{◌≡◌, Some, sym, ap, ◌∙◌, arith}
+use Rattle.std.proofs.Common.{◌≡◌, Some, sym, ap, ◌∙◌}
 use Rattle.std.specs.Option.{option_map}
 use Rattle.table.specs.Tabled.{still}
 use Rattle.table.specs.Tables.{states_of, state_of}
 use Rattle.table.specs.Keeping.{gap_closes, open_accepted}
 use Rattle.table.specs.Openings.{idle_is_open}
-use Rattle.table.specs.TablesLemmas.{state_numbered}
 use Rattle.table.proofs.shared.Table.accept.Goals as goal
-
-pub set_wait-requires : goal.set_wait-requires
-set_wait-requires g c =
-    let is = sym c.state.ensures ∙ ap (option_map (λ x. x.now)) c.in_ok-state.ensures.ok_part in
-    let at = state_numbered (states_of c.args.self.now) c.args.stream c.in_ok-state.state.now is in
-    omega arith
 
 pub returns-clause-answer : goal.returns-clause-answer
 returns-clause-answer g c =

@@ -1,4 +1,4 @@
-use Rattle.std.proofs.Common.{◌≡◌, ℕ, ◌<◌, ◌≤◌, List, length, get_or, Bor, Some, None, Option, sym, refl, ap, ◌∙◌}
+use Rattle.std.proofs.Common.{◌≡◌, ℕ, ◌<◌, ◌≤◌, List, length, get_or, Bor, Some, None, Option, sym, refl}
 use Rattle.std.proofs.lemmas.Option.{slice_get_past, slice_get_read}
 use Rattle.std.specs.Option.{IfSome, MatchOption, option_map}
 use Rattle.std.specs.List.{HoldsAt, slice_get}
@@ -15,7 +15,6 @@ pub returns : goal.returns
 returns g c =
     let xs = states_of c.args.self.now in
     let at = c.in_ok-at.ensures in
-    found c.get.result c.deref.result.now c.in_ok-at.at c.get.ensures.lookup.3 c.get.ensures.lookup.1
-    ∙ ap (λ ys. slice_get ys c.in_ok-at.at) c.deref.ensures.value
-    ∙ ap (slice_get xs) at.1
-    ∙ sym (state_at xs c.args.stream at.0)
+    let is = found c.get.result c.deref.result.now c.in_ok-at.at c.get.ensures.lookup.3 c.get.ensures.lookup.1 in
+    let last = state_at xs c.args.stream at.0 in
+    cc
