@@ -11,3 +11,4 @@ pub mod Uniqueness
 pub mod Deciding
 pub mod Publishing
 pub mod Steadies
+pub mod Followings

@@ -1,20 +1,17 @@
--- Shares that stay the same for a while, and what is kept of each stream.
+-- Shares that stay the same for a while.
 
-use Rattle.std.proofs.Common.{◌≡◌, ℕ, ◌+◌, ◌-◌, ◌*◌, ◌^◌, ◌<◌, ◌≤◌, ◌≢◌, List, length, get_or, set, replicate, map, sym, refl, ap, ◌∙◌, subst, ⊎_elim, arith}
-use Rattle.std.proofs.lemmas.List.{get_or-set_same, get_or-set_other, get_or_default, get_or-replicate}
-use Rattle.std.proofs.Math.ListN.{get_or-map}
+use Rattle.std.proofs.Common.{◌≡◌, ℕ, ◌+◌, ◌-◌, ◌*◌, ◌^◌, ◌<◌, ◌≤◌, sym, ap, ◌∙◌, subst, ⊎_elim, arith}
 use Rattle.std.proofs.lemmas.Bool.{cases_lt}
 use Rattle.stream.specs.Limits.{Within}
 use Rattle.stream.specs.declared.Class.TheVariants.{Critical}
 use Rattle.stream.specs.declared.Row.{Row}
 use Rattle.bank.specs.Ceilings.{Ceiling, back}
-use Rattle.bank.specs.Kinds.{Kind}
 use Rattle.bank.proofs.Backs.{back_before, back_after}
 use Rattle.demand.specs.declared.Plateau.{Plateau}
 use Rattle.demand.specs.declared.Steady.{Steady}
 use Rattle.demand.specs.declared.Watch.{Watch}
 use Rattle.demand.specs.Shares.{normal_share, overrun_share, slack}
-use Rattle.demand.specs.Watching.{Flat, Seen, Watched, WatchedFrom, Holds, Kept, Each, DueFrom, KeptFrom}
+use Rattle.demand.specs.Watching.{Flat, Seen, Watched, Holds, Kept}
 use Rattle.demand.proofs.Plateaus.{plateau_share, share_before_slack}
 use Rattle.demand.proofs.Watches.{flat_seen}
 
@@ -89,53 +86,3 @@ module _ {k : ℕ} {N : ℕ → ℕ} (row : Row) (law : Ceiling row k N) (w : Wi
 
 pub kept_later : (row : Row) (N : ℕ → ℕ) (t : ℕ) (w : Watch) → t < w.steady.end → Kept row N t w → Kept row N (t + 1) w
 kept_later row N t w h kept = record { watched = kept.stays t (omega arith) h; share = holds_later kept.share; stays = λ q from. kept.stays q (omega arith) }
-
--- writing the item of stream i leaves those of the others
-pub each_rest : {X : Type 0} (P : ℕ → Row → X → Type 0) (rows : List Row) (i n : ℕ) (items : List X) (x : X) → Each P rows i n items → Each P rows (i + 1) n (set items i x)
-each_rest {X} P rows i n items x w j d e later h =
-    let other : j ≢ i = omega arith in
-    let At : X → Type 0 = λ q. P (j + 1) (get_or rows j d) q in
-    subst At (sym (get_or-set_other items i j x e other)) (w j d e (omega arith) h)
-
-pub each_front : {X : Type 0} (P : ℕ → Row → X → Type 0) (rows : List Row) (i : ℕ) (items : List X) (x : X) (d : Row) → i < length rows → i < length items → Each P rows 0 i items → P (i + 1) (get_or rows i d) x → Each P rows 0 (i + 1) (set items i x)
-each_front {X} P rows i items x d in_rows in_items w here j f e none h =
-    ⊎_elim
-    (λ (before : j < i).
-    let other : j ≢ i = omega arith in
-    let At : X → Type 0 = λ q. P (j + 1) (get_or rows j f) q in
-    subst At (sym (get_or-set_other items i j x e other)) (w j f e none before))
-    (λ (from : i ≤ j).
-    let is : i ≡ j = omega arith in
-    let Now : ℕ → Type 0 = λ n. P (n + 1) (get_or rows n f) (get_or (set items i x) n e) in
-    let Of : Row → Type 0 = λ r. P (i + 1) r x in
-    let At : X → Type 0 = λ q. P (i + 1) (get_or rows i f) q in
-    subst Now is (subst At (sym (get_or-set_same items i x e in_items)) (subst Of (get_or_default rows i d f in_rows) here)))
-    (cases_lt j i)
-
--- the same item for all
-pub each_same : {X : Type 0} (P : ℕ → Row → X → Type 0) (rows : List Row) (n : ℕ) (x : X) → n ≤ 32 → ((i : ℕ) (row : Row) → P i row x) → Each P rows 0 n (replicate 32 x)
-each_same {X} P rows n x few all i d e from h =
-    let At : X → Type 0 = λ q. P (i + 1) (get_or rows i d) q in
-    subst At (sym (get_or-replicate 32 i x e (omega arith))) (all (i + 1) (get_or rows i d))
-
--- before the first length nothing is known
-pub due_none : {S : Type 0} (k : Kind S) (b : S) (rows : List Row) (n t : ℕ) → n ≤ 32 → DueFrom k b rows 0 n t (replicate 32 (record { share = 0; end = 0 }))
-due_none k b rows n t few =
-    each_same (λ i row s. Holds (normal_share row (k.ceiling b i)) t s) rows n (record { share = 0; end = 0 }) few
-    (λ i row. record { is = λ q from before. let z : ⊥ = omega arith in absurd z; small = omega arith })
-
-pub kept_none : {S : Type 0} (k : Kind S) (b : S) (rows : List Row) (n : ℕ) → n ≤ 32 → KeptFrom k b rows 0 n 0 (replicate 32 (record { plateau = record { start = 0; level = 0 }; steady = record { share = 0; end = 0 } }))
-kept_none k b rows n few =
-    each_same (λ i row w. Kept row (k.ceiling b i) 0 w) rows n (record { plateau = record { start = 0; level = 0 }; steady = record { share = 0; end = 0 } }) few
-    (λ i row. record {
-      watched = λ critical. record { unasked = λ _. refl; asked = λ l. let z : ⊥ = omega arith in absurd z };
-      share = record { is = λ q from before. let z : ⊥ = omega arith in absurd z; small = omega arith };
-      stays = λ q from before. let z : ⊥ = omega arith in absurd z;
-    })
-
--- what is kept of the streams has the plateau of each
-pub kept_watched : {S : Type 0} (k : Kind S) (b : S) (rows : List Row) (from n t : ℕ) (items : List Watch) → KeptFrom k b rows from n t items → WatchedFrom k b rows from n t (map (λ w. w.plateau) items)
-kept_watched k b rows from n t items kept i d e low high =
-    let unknown : Watch = record { plateau = e; steady = record { share = 0; end = 0 } } in
-    let P : Plateau → Type 0 = λ p. Watched (get_or rows i d) (k.ceiling b (i + 1)) t p in
-    subst P (sym (get_or-map (λ (w : Watch). w.plateau) items i unknown)) (kept i d unknown low high).watched

@@ -10,8 +10,9 @@ use Rattle.bank.specs.Ceilings.{Ceiling, back}
 use Rattle.bank.specs.Kinds.{Kind}
 use Rattle.bank.specs.Laws.{Laws}
 use Rattle.demand.specs.declared.Plateau.{Plateau}
+use Rattle.demand.specs.Listing.{Listed}
 use Rattle.demand.specs.Shares.{slack}
-use Rattle.demand.specs.Watching.{Flat, Seen, Watched, Listed, moved}
+use Rattle.demand.specs.Watching.{Flat, Seen, Watched, moved}
 use Rattle.demand.proofs.Listing.{listed_within, listed_ceiling}
 use Rattle.bank.proofs.Backs.{back_after}
 use Rattle.demand.proofs.Plateaus.{plateau_first, plateau_stays, plateau_rises}

@@ -111,15 +111,9 @@ pub record Decided {S : Type 0} (k : Kind S) (b : S) (answer : Result Verdict Re
   pub says : Says k b answer
   pub exactly : ExactlyWhen k b answer
 
--- why the test stops at a length
-abbrev pub Stops : {S : Type 0} → Kind S → S → ℕ → ℕ → Refusal → Type 0
-Stops k b h t e = (p : Phase) × ExceedsFirst k b p t × (e ≡ DemandExceeded (record { horizon = h; lengths = t + 1; point = point_at k b p t }))
-
--- both demands fit, and these are the two points
-pub record Passes {S : Type 0} (k : Kind S) (b : S) (t : ℕ) (points : Point × Point) : Type 0 where
-  pub fits : Fits k b t
-  pub normal : points.0 ≡ point_at k b Normal t
-  pub overrun : points.1 ≡ point_at k b Overrun t
+-- the refusal at a length that a demand exceeds
+abbrev pub exceeded_at : {S : Type 0} → Kind S → S → ℕ → Phase → ℕ → Refusal
+exceeded_at k b h p t = DemandExceeded (record { horizon = h; lengths = t + 1; point = point_at k b p t })
 
 -- the points that the next one is chosen from
 abbrev pub candidates : Option Point → Point → Point → List Point

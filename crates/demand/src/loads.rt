@@ -23,8 +23,8 @@ pub fn load<B: Bank>(bank: &B) -> u64
     ensures { result ≡ total_load B.kind bank.now }
 {
     let mut sum = 0;
-    for i in 0..bank.streams() {
-        sum += load_of(bank, i + 1);
+    for stream in 1..bank.streams() + 1 {
+        sum += load_of(bank, stream);
     }
     sum
 }

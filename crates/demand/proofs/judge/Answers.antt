@@ -4,14 +4,7 @@ use Rattle.stream.specs.declared.Refusal.{Refusal}
 use Rattle.stream.specs.declared.Refusal.TheVariants.{HorizonTooFar}
 use Rattle.stream.specs.declared.Verdict.{Verdict}
 use Rattle.demand.specs.Verdicts.{Accepts, Refuses}
-use Rattle.demand.proofs.Listing.{listed_within, least_horizon, common_multiple}
 use Rattle.demand.proofs.judge.Goals as goal
-
-pub common_multiple-requires : goal.common_multiple-requires
-common_multiple-requires g c = record {
-  few = c.if-streams-gt-MOST_STREAMS.false;
-  spaced = λ i d h. (listed_within g.B.Bank.kind c.args.bank.now _ _ (c.rows_of-rows.ensures i d h)).0.0;
-}
 
 pub returns-in_err-horizon : goal.returns-in_err-horizon
 returns-in_err-horizon g c =
@@ -24,20 +17,15 @@ returns-in_err-horizon g c =
     subst P (sym is) (record {
       some = omega (arith, c.streams-streams.ensures, c.if-streams-eq0.false);
       few = omega (arith, c.streams-streams.ensures, c.if-streams-gt-MOST_STREAMS.false);
-      far = λ m common. none.1 m (common_multiple k b c.streams-streams.result m c.rows_of-rows.result c.rows_of-rows.ensures common);
+      far = none.1;
     })
 
 pub scan-requires : goal.scan-requires
 scan-requires g c =
     let l = c.in_ok-horizon.ensures in
-    let whole = c.streams-streams.ensures in
     record {
-      whole = whole;
-      listed = c.rows_of-rows.ensures;
-      reach = record {
-        some = omega (arith, whole, c.if-streams-eq0.false);
-        few = omega (arith, whole, c.if-streams-gt-MOST_STREAMS.false);
-        horizon = least_horizon g.B.Bank.kind g.met.B.Bank.lawful c.args.bank.now c.streams-streams.result c.in_ok-horizon.horizon c.rows_of-rows.result whole c.rows_of-rows.ensures l.0;
-        near = l.1;
-      };
+      some = omega (arith, c.streams-streams.ensures, c.if-streams-eq0.false);
+      few = omega (arith, c.streams-streams.ensures, c.if-streams-gt-MOST_STREAMS.false);
+      horizon = l.0;
+      near = l.1;
     }

@@ -1,0 +1,32 @@
+use Rattle.std.proofs.Common.{ℕ, ◌*◌, sym, ap, arith}
+use Rattle.demand.specs.Shares.{normal_share}
+use Rattle.demand.proofs.Listing.{listed_within, asked_product}
+use Rattle.demand.proofs.Steadies.{holds_later, normal_early, normal_lasts}
+use Rattle.demand.proofs.Widths.{budget_fits}
+use Rattle.demand.proofs.normal.steady_from.Goals as goal
+
+pub returns-then-length-row : goal.returns-then-length-row
+returns-then-length-row g c =
+    let s = c.args.stream.now in
+    let early = normal_early s.row.now (g.B.Bank.kind.ceiling s.bank.now s.number) c.args.length in
+    record { value = sym (early.is c.args.length (omega arith) c.if-length-row.true); holds = holds_later early }
+
+pub overflow_mul-result : goal.overflow_mul-result
+overflow_mul-result g c =
+    let s = c.args.stream.now in
+    let k = g.B.Bank.kind in
+    let small = budget_fits (listed_within k s.bank.now s.number s.row.now s.listed) in
+    let fits = asked_product k g.met.B.Bank.lawful s.bank.now s.number s.row.now s.listed c.args.length s.row.now.short c.ceiling_at-level.result s.row.now.budget c.requires c.ceiling_at-level.ensures small in
+    omega arith
+
+pub returns : goal.returns
+unfolding normal_share
+returns g c =
+    let s = c.args.stream.now in
+    let k = g.B.Bank.kind in
+    let small = budget_fits (listed_within k s.bank.now s.number s.row.now s.listed) in
+    let fits = asked_product k g.met.B.Bank.lawful s.bank.now s.number s.row.now s.listed c.args.length s.row.now.short c.ceiling_at-level.result s.row.now.budget c.requires c.ceiling_at-level.ensures small in
+    record {
+      value = ap (λ (n : ℕ). n * s.row.now.budget) c.ceiling_at-level.ensures;
+      holds = normal_lasts s.row.now (k.ceiling s.bank.now s.number) c.args.length c.ceiling_at-level.result c.level_end.result c.level_end.ensures fits;
+    }

@@ -1,0 +1,63 @@
+// The normal share of a stream.
+
+ghost use Rattle.std.specs.Prelude.{◌≡◌, ◌+◌, ◌≤◌};
+ghost use Rattle.stream.specs.declared.Phase.TheVariants.{Normal};
+ghost use Rattle.demand.specs.Shares.{normal_share};
+ghost use Rattle.demand.specs.Watching.{Holds};
+ghost use Rattle.demand.specs.Blanks.{steady_blank};
+
+use crate::asked::Asked;
+use crate::memory::Memory;
+use crate::{FARTHEST, Steady};
+use bank::Bank;
+use stream::Phase;
+
+// The normal share from a length on.
+fn steady_from<B: Bank>(stream: &Asked<B>, length: u64) -> Steady
+    requires { length ≤ 1000000 }
+    ensures value { result.share ≡ normal_share stream.now.row.now (B.kind.ceiling stream.now.bank.now stream.now.number) length }
+    ensures holds { Holds (normal_share stream.now.row.now (B.kind.ceiling stream.now.bank.now stream.now.number)) (length + 1) result }
+{
+    let row = stream.row;
+    if length < row.short {
+        return Steady {
+            share: 0,
+            end: row.short,
+        };
+    }
+    let level = stream.ceiling_at(length, row.short);
+    let last = (length + row.gap - 1).min(FARTHEST);
+    Steady {
+        share: level * row.budget,
+        end: stream.level_end(level, length, row.short, last),
+    }
+}
+
+impl Memory for Steady {
+    ghost PHASE = { Normal };
+
+    ghost blank = { record { share = 0; end = 0 } };
+
+    ghost right = { λ row N t s. Holds (normal_share row N) t s };
+
+    ghost begins = { λ row N. steady_blank (normal_share row N) 0 };
+
+    const PHASE: Phase = Phase::Normal;
+
+    fn blank() -> Steady {
+        Steady { share: 0, end: 0 }
+    }
+
+    // No length before it matters.
+    fn first(length: u64) -> u64 {
+        length
+    }
+
+    fn share_at<B: Bank>(&mut self, stream: &Asked<B>, length: u64) -> u64 {
+        if length < self.end {
+            return self.share;
+        }
+        *self = steady_from(stream, length);
+        self.share
+    }
+}
