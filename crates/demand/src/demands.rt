@@ -2,26 +2,24 @@
 
 ghost use Rattle.std.specs.Prelude.{◌≡◌, ◌+◌, ◌^◌, ◌≤◌};
 ghost use Rattle.demand.specs.Demands.{demand};
-ghost use Rattle.demand.specs.Following.{Follows, Unknown};
+ghost use Rattle.demand.specs.Following.{Follows, Places, Unknown};
 
 use crate::asked::Asked;
 use crate::memory::Memory;
-use arrayvec::ArrayVec;
 use bank::Bank;
 use stream::{Class, Row};
 
 // A stream that is followed from length to length. Its row is copied once, so that the bank is asked only for ceilings.
 #[derive(Clone, Copy)]
 pub(crate) struct Followed<M> {
-    number: u64,
     row: Row,
     memory: M,
 }
 
+// A place that no stream has yet.
 impl<M: Memory> Default for Followed<M> {
     fn default() -> Followed<M> {
         Followed {
-            number: 0,
             row: Row {
                 class: Class::Background,
                 budget: 0,
@@ -35,22 +33,19 @@ impl<M: Memory> Default for Followed<M> {
     }
 }
 
-// All streams of a bank, before the first length.
-pub(crate) fn streams_of<B: Bank, M: Memory>(bank: &B) -> ArrayVec<Followed<M>, 32>
-    requires { B.kind.streams bank.now ≤ 32 }
-    ensures { Unknown B.kind bank.now M.right M.blank result.items }
+// Puts each stream in its place, before the first length.
+pub(crate) fn list<B: Bank, M: Memory>(bank: &B, streams: &mut [Followed<M>])
+    requires { Places B.kind bank.now streams.old }
+    ensures { Unknown B.kind bank.now M.right M.blank streams.new }
 {
-    let mut streams = ArrayVec::new();
-    for number in 1..bank.streams() + 1 {
-        if let Some(record) = bank.record_of(number) {
-            streams.push(Followed {
-                number,
+    for (i, stream) in streams.iter_mut().enumerate() {
+        if let Some(record) = bank.record_of(i as u64 + 1) {
+            *stream = Followed {
                 row: record.row(),
                 memory: M::blank(),
-            });
+            };
         }
     }
-    streams
 }
 
 // The demand at a length, one length after the one before.
@@ -66,10 +61,10 @@ pub(crate) fn next_demand<B: Bank, M: Memory>(
     ensures follows { Follows B.kind bank.now M.right (length + 1) streams.new }
 {
     let mut sum = 0;
-    for stream in streams {
+    for (i, stream) in streams.iter_mut().enumerate() {
         let asked = Asked {
             bank,
-            number: stream.number,
+            number: i as u64 + 1,
             row: &stream.row,
         };
         sum += stream.memory.share_at(&asked, length);
@@ -84,9 +79,10 @@ pub(crate) fn demand_of<B: Bank, M: Memory>(
     length: u64,
 ) -> u64
     requires within { length ≤ 1000000 }
-    requires unknown { Unknown B.kind bank.now M.right M.blank streams.old }
+    requires places { Places B.kind bank.now streams.old }
     ensures { result ≡ demand B.kind bank.now M.PHASE length }
 {
+    list(bank, streams);
     for before in M::first(length)..length {
         next_demand(bank, streams, before);
     }

@@ -6,7 +6,7 @@ ghost use Rattle.std.specs.Prelude.{MatchResult};
 ghost use Rattle.demand.specs.Verdicts.{Accepts, Decided, DemandTold, Judged, Refuses};
 
 use bank::Bank;
-use demands::{demand_of, streams_of};
+use demands::{Followed, demand_of};
 use horizon::common_multiple;
 use scan::scan;
 use stream::{Phase, Refusal, Verdict};
@@ -82,8 +82,17 @@ pub fn demand_at<B: Bank>(bank: &B, phase: Phase, length: u64) -> Option<u64>
     if streams > MOST_STREAMS || length > FARTHEST {
         return None;
     }
+    let streams = streams as usize;
     Some(match phase {
-        Phase::Normal => demand_of(bank, &mut streams_of::<B, Steady>(bank), length),
-        Phase::Overrun => demand_of(bank, &mut streams_of::<B, Watch>(bank), length),
+        Phase::Normal => demand_of(
+            bank,
+            &mut [Followed::<Steady>::default(); 32][..streams],
+            length,
+        ),
+        Phase::Overrun => demand_of(
+            bank,
+            &mut [Followed::<Watch>::default(); 32][..streams],
+            length,
+        ),
     })
 }

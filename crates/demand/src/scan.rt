@@ -1,13 +1,13 @@
 // The scan over all lengths up to the horizon.
 
-ghost use Rattle.std.specs.Prelude.{◌≡◌, ◌+◌, ◌<◌, ◌≤◌, MatchResult, OnOk};
+ghost use Rattle.std.specs.Prelude.{◌≡◌, ◌+◌, ◌<◌, ◌≤◌, MatchResult};
 ghost use Rattle.least.specs.Firsts.{FirstLeast};
 ghost use Rattle.least.specs.Orders.{by_margin, point_below};
 ghost use Rattle.demand.specs.Demands.{demand};
-ghost use Rattle.demand.specs.Following.{Follows};
+ghost use Rattle.demand.specs.Following.{Follows, Places};
 ghost use Rattle.demand.specs.Verdicts.{InReach, Accepts, Refuses, point_at, exceeded_at, candidates};
 
-use crate::demands::{Followed, streams_of, next_demand};
+use crate::demands::{Followed, list, next_demand};
 use crate::memory::Memory;
 use crate::{Steady, Watch};
 use bank::Bank;
@@ -63,16 +63,23 @@ fn keep_nearest(nearest: &mut Option<Point>, length: u64, normal: Point, overrun
 }
 
 // Looks at every length up to the horizon, in order, until a demand exceeds one.
-pub(crate) fn scan<B: Bank>(bank: &B, horizon: u64) -> Result<Verdict, Refusal>
-    requires { InReach B.kind bank.now horizon }
+fn scan_places<B: Bank>(
+    bank: &B,
+    steadies: &mut [Followed<Steady>],
+    watches: &mut [Followed<Watch>],
+    horizon: u64,
+) -> Result<Verdict, Refusal>
+    requires steadies { Places B.kind bank.now steadies.old }
+    requires watches { Places B.kind bank.now watches.old }
+    requires reach { InReach B.kind bank.now horizon }
     ensures { MatchResult result (λ v. Accepts B.kind bank.now v) (λ e. Refuses B.kind bank.now e) }
 {
-    let mut steadies = streams_of::<B, Steady>(bank);
-    let mut watches = streams_of::<B, Watch>(bank);
+    list(bank, steadies);
+    list(bank, watches);
     let mut nearest = None;
     for length in 0..horizon + 1 {
-        let normal = look(bank, &mut steadies, horizon, length)?;
-        let overrun = look(bank, &mut watches, horizon, length)?;
+        let normal = look(bank, steadies, horizon, length)?;
+        let overrun = look(bank, watches, horizon, length)?;
         keep_nearest(&mut nearest, length, normal, overrun);
     }
     match nearest {
@@ -83,4 +90,19 @@ pub(crate) fn scan<B: Bank>(bank: &B, horizon: u64) -> Result<Verdict, Refusal>
         }),
         None => unreachable(),
     }
+}
+
+pub(crate) fn scan<B: Bank>(bank: &B, horizon: u64) -> Result<Verdict, Refusal>
+    requires { InReach B.kind bank.now horizon }
+    ensures { MatchResult result (λ v. Accepts B.kind bank.now v) (λ e. Refuses B.kind bank.now e) }
+{
+    let streams = bank.streams() as usize;
+    let mut steadies = [Followed::<Steady>::default(); 32];
+    let mut watches = [Followed::<Watch>::default(); 32];
+    scan_places(
+        bank,
+        &mut steadies[..streams],
+        &mut watches[..streams],
+        horizon,
+    )
 }

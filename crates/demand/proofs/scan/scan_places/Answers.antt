@@ -2,15 +2,14 @@ use Rattle.std.proofs.Common.{◌+◌, ◌-◌, arith, below_more}
 use Rattle.demand.specs.Blanks.{steady_blank, watch_blank}
 use Rattle.demand.specs.Demands.{Fits}
 use Rattle.demand.specs.Shares.{normal_share}
-use Rattle.demand.proofs.Followings.{follows_refilled}
 use Rattle.demand.proofs.Nearest.{nearest_upto}
-use Rattle.demand.proofs.scan.scan.Goals as goal
+use Rattle.demand.proofs.scan.scan_places.Goals as goal
 
 pub loop-length-init : goal.loop-length-init
 loop-length-init g c = (
   λ t h. let z : ⊥ = omega arith in absurd z,
-  c.streams_of-steadies.ensures 0 (λ row N. steady_blank (normal_share row N) 0),
-  c.streams_of-watches.ensures 0 watch_blank,
+  c.list.ensures 0 (λ row N. steady_blank (normal_share row N) 0),
+  c.list-2.ensures 0 watch_blank,
   omega arith,
 )
 
@@ -22,7 +21,7 @@ loop-length-preserved g c =
     let normal = c.in_ok-normal.ensures in
     let overrun = c.in_ok-overrun.ensures in (
       below_more (λ s. Fits k b s) t c.loop-length.invariant.0 (normal.cases.0, overrun.cases.0),
-      follows_refilled k b _ t (t + 1) c.loop-length.steadies.items c.look.new.streams c.loop-length.invariant.1 normal.follows,
-      follows_refilled k b _ t (t + 1) c.loop-length.watches.items c.look-in-loop-length.new.streams c.loop-length.invariant.2 overrun.follows,
+      normal.follows,
+      overrun.follows,
       nearest_upto k b t (t + 1 - 1) c.loop-length.nearest c.in_ok-normal.normal c.in_ok-overrun.overrun c.keep_nearest.new.nearest (omega arith) normal.cases.1 overrun.cases.1 c.loop-length.invariant.3 c.keep_nearest.ensures.first c.keep_nearest.ensures.later,
     )
