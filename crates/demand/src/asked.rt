@@ -1,4 +1,4 @@
-// One stream of a bank, with its row at hand.
+// One stream of a bank at a length, with its row at hand.
 
 ghost use Rattle.std.specs.Prelude.{◌≡◌, ℕ, ◌<◌, ◌≤◌};
 ghost use Rattle.bank.specs.Ceilings.{back};
@@ -13,12 +13,14 @@ pub(crate) struct Asked<'a, 'b, B: Bank> {
     pub(crate) bank: &'a B,
     pub(crate) number: u64,
     pub(crate) row: &'b Row,
+    pub(crate) length: u64,
     ghost listed: { Listed B.kind bank.now number row.now },
+    ghost within: { length ≤ 1000000 },
 }
 
 impl<'a, 'b, B: Bank> Asked<'a, 'b, B> {
     // The ceiling at `length - before`, both within what a bank is asked.
-    pub(crate) fn ceiling_at(&self, length: u64, before: u64) -> u64
+    fn ceiling_at(&self, length: u64, before: u64) -> u64
         requires length_within { length ≤ 1000000 }
         requires before_within { before ≤ 65535 }
         ensures { result ≡ back (B.kind.ceiling self.now.bank.now self.now.number) length before }
@@ -28,18 +30,25 @@ impl<'a, 'b, B: Bank> Asked<'a, 'b, B> {
             .unwrap_or(0)
     }
 
-    // The lengths from `length` on, below which the ceiling is certain to stay at `level`: it never falls, so it is the same up to `last` if it is there.
-    pub(crate) fn level_end(&self, level: u64, length: u64, before: u64, last: u64) -> u64
-        requires length_within { length ≤ 1000000 }
+    // The ceiling now.
+    pub(crate) fn level(&self, before: u64) -> u64
+        requires { before ≤ 65535 }
+        ensures { result ≡ back (B.kind.ceiling self.now.bank.now self.now.number) self.now.length before }
+    {
+        self.ceiling_at(self.length, before)
+    }
+
+    // The lengths from here on, below which the ceiling is certain to stay at `level`: it never falls, so it is the same up to `last` if it is there.
+    pub(crate) fn level_end(&self, level: u64, before: u64, last: u64) -> u64
         requires before_within { before ≤ 65535 }
         requires last_within { last ≤ 1000000 }
-        requires level { level ≡ back (B.kind.ceiling self.now.bank.now self.now.number) length before }
-        ensures { (q : ℕ) → length ≤ q → q < result → back (B.kind.ceiling self.now.bank.now self.now.number) q before ≡ level }
+        requires level { level ≡ back (B.kind.ceiling self.now.bank.now self.now.number) self.now.length before }
+        ensures { (q : ℕ) → self.now.length ≤ q → q < result → back (B.kind.ceiling self.now.bank.now self.now.number) q before ≡ level }
     {
         if self.ceiling_at(last, before) == level {
             last + 1
         } else {
-            length + 1
+            self.length + 1
         }
     }
 }

@@ -66,8 +66,9 @@ pub(crate) fn next_demand<B: Bank, M: Memory>(
             bank,
             number: i as u64 + 1,
             row: &stream.row,
+            length,
         };
-        sum += stream.memory.share_at(&asked, length);
+        sum += stream.memory.share_at(&asked);
     }
     sum
 }

@@ -28,13 +28,12 @@ pub(crate) trait Memory: Copy {
         ensures upto { result ≤ length }
         ensures fresh { (row : Numbers) (N : ℕ → ℕ) → right row N result blank };
 
-    // The share at a length, remembered for the lengths after it.
-    fn share_at<B: Bank>(&mut self, stream: &Asked<B>, length: u64) -> u64
-        requires within { length ≤ 1000000 }
-        requires right { right stream.now.row.now (B.kind.ceiling stream.now.bank.now stream.now.number) length self.old }
-        ensures share { result ≡ share_of PHASE stream.now.row.now (B.kind.ceiling stream.now.bank.now stream.now.number) length }
+    // The share at this length, remembered for the lengths after it.
+    fn share_at<B: Bank>(&mut self, stream: &Asked<B>) -> u64
+        requires right { right stream.now.row.now (B.kind.ceiling stream.now.bank.now stream.now.number) stream.now.length self.old }
+        ensures share { result ≡ share_of PHASE stream.now.row.now (B.kind.ceiling stream.now.bank.now stream.now.number) stream.now.length }
         ensures bound { result < 2 ^ 37 }
-        ensures right { right stream.now.row.now (B.kind.ceiling stream.now.bank.now stream.now.number) (length + 1) self.new };
+        ensures right { right stream.now.row.now (B.kind.ceiling stream.now.bank.now stream.now.number) (stream.now.length + 1) self.new };
 
     ghost begins: { (row : Numbers) (N : ℕ → ℕ) → right row N 0 blank };
 }

@@ -12,24 +12,23 @@ use crate::{FARTHEST, Steady};
 use bank::Bank;
 use stream::Phase;
 
-// The normal share from a length on.
-fn steady_from<B: Bank>(stream: &Asked<B>, length: u64) -> Steady
-    requires { length ≤ 1000000 }
-    ensures value { result.share ≡ normal_share stream.now.row.now (B.kind.ceiling stream.now.bank.now stream.now.number) length }
-    ensures holds { Holds (normal_share stream.now.row.now (B.kind.ceiling stream.now.bank.now stream.now.number)) (length + 1) result }
+// The normal share from here on.
+fn steady_from<B: Bank>(stream: &Asked<B>) -> Steady
+    ensures value { result.share ≡ normal_share stream.now.row.now (B.kind.ceiling stream.now.bank.now stream.now.number) stream.now.length }
+    ensures holds { Holds (normal_share stream.now.row.now (B.kind.ceiling stream.now.bank.now stream.now.number)) (stream.now.length + 1) result }
 {
-    let row = stream.row;
+    let Asked { row, length, .. } = *stream;
     if length < row.short {
         return Steady {
             share: 0,
             end: row.short,
         };
     }
-    let level = stream.ceiling_at(length, row.short);
+    let level = stream.level(row.short);
     let last = (length + row.gap - 1).min(FARTHEST);
     Steady {
         share: level * row.budget,
-        end: stream.level_end(level, length, row.short, last),
+        end: stream.level_end(level, row.short, last),
     }
 }
 
@@ -53,11 +52,11 @@ impl Memory for Steady {
         length
     }
 
-    fn share_at<B: Bank>(&mut self, stream: &Asked<B>, length: u64) -> u64 {
-        if length < self.end {
+    fn share_at<B: Bank>(&mut self, stream: &Asked<B>) -> u64 {
+        if stream.length < self.end {
             return self.share;
         }
-        *self = steady_from(stream, length);
+        *self = steady_from(stream);
         self.share
     }
 }

@@ -35,14 +35,13 @@ fn less_done(row: &Row, level: u64, since: u64) -> u64
 }
 
 // The overrun share, and the plateau from here on. The n that counts is the last one on the plateau, so no other is tried.
-fn share_on<B: Bank>(stream: &Asked<B>, length: u64, seen: Plateau) -> (Plateau, u64)
-    requires within { length ≤ 1000000 }
-    requires watched { Watched stream.now.row.now (B.kind.ceiling stream.now.bank.now stream.now.number) length seen }
-    ensures value { result.1 ≡ overrun_share stream.now.row.now (B.kind.ceiling stream.now.bank.now stream.now.number) length }
+fn share_on<B: Bank>(stream: &Asked<B>, seen: Plateau) -> (Plateau, u64)
+    requires { Watched stream.now.row.now (B.kind.ceiling stream.now.bank.now stream.now.number) stream.now.length seen }
+    ensures value { result.1 ≡ overrun_share stream.now.row.now (B.kind.ceiling stream.now.bank.now stream.now.number) stream.now.length }
     ensures bound { result.1 < 2 ^ 37 }
-    ensures watched { Watched stream.now.row.now (B.kind.ceiling stream.now.bank.now stream.now.number) (length + 1) result.0 }
+    ensures watched { Watched stream.now.row.now (B.kind.ceiling stream.now.bank.now stream.now.number) (stream.now.length + 1) result.0 }
 {
-    let row = stream.row;
+    let Asked { row, length, .. } = *stream;
     match row.class {
         Class::Background => (seen, 0),
         Class::Critical => {
@@ -51,7 +50,7 @@ fn share_on<B: Bank>(stream: &Asked<B>, length: u64, seen: Plateau) -> (Plateau,
                 return (seen, 0);
             }
             let m = length - slack;
-            let level = stream.ceiling_at(length, slack);
+            let level = stream.level(slack);
             let plateau = seen.at(m, level);
             (plateau, less_done(row, level, m - plateau.start))
         }
@@ -59,13 +58,12 @@ fn share_on<B: Bank>(stream: &Asked<B>, length: u64, seen: Plateau) -> (Plateau,
 }
 
 // Where the overrun share may change again: past its slack, a carried-over job first has to do its budget, and then the plateau has to end.
-fn share_end<B: Bank>(stream: &Asked<B>, length: u64, plateau: Plateau) -> u64
-    requires within { length ≤ 1000000 }
-    requires watched { Watched stream.now.row.now (B.kind.ceiling stream.now.bank.now stream.now.number) (length + 1) plateau }
-    ensures share { (q : ℕ) → length < q → q < result → overrun_share stream.now.row.now (B.kind.ceiling stream.now.bank.now stream.now.number) q ≡ overrun_share stream.now.row.now (B.kind.ceiling stream.now.bank.now stream.now.number) length }
-    ensures stays { (q : ℕ) → length < q → q < result → Watched stream.now.row.now (B.kind.ceiling stream.now.bank.now stream.now.number) (q + 1) plateau }
+fn share_end<B: Bank>(stream: &Asked<B>, plateau: Plateau) -> u64
+    requires { Watched stream.now.row.now (B.kind.ceiling stream.now.bank.now stream.now.number) (stream.now.length + 1) plateau }
+    ensures share { (q : ℕ) → stream.now.length < q → q < result → overrun_share stream.now.row.now (B.kind.ceiling stream.now.bank.now stream.now.number) q ≡ overrun_share stream.now.row.now (B.kind.ceiling stream.now.bank.now stream.now.number) stream.now.length }
+    ensures stays { (q : ℕ) → stream.now.length < q → q < result → Watched stream.now.row.now (B.kind.ceiling stream.now.bank.now stream.now.number) (q + 1) plateau }
 {
-    let row = stream.row;
+    let Asked { row, length, .. } = *stream;
     match row.class {
         Class::Background => FARTHEST + 1,
         Class::Critical => {
@@ -77,7 +75,7 @@ fn share_end<B: Bank>(stream: &Asked<B>, length: u64, plateau: Plateau) -> u64
                 return length + 1;
             }
             let last = (slack + plateau.start + row.gap - 1).min(FARTHEST);
-            stream.level_end(plateau.level, length, slack, last)
+            stream.level_end(plateau.level, slack, last)
         }
     }
 }
@@ -105,12 +103,12 @@ impl Memory for Watch {
         0
     }
 
-    fn share_at<B: Bank>(&mut self, stream: &Asked<B>, length: u64) -> u64 {
-        if length < self.steady.end {
+    fn share_at<B: Bank>(&mut self, stream: &Asked<B>) -> u64 {
+        if stream.length < self.steady.end {
             return self.steady.share;
         }
-        let (plateau, share) = share_on(stream, length, self.plateau);
-        let end = share_end(stream, length, plateau);
+        let (plateau, share) = share_on(stream, self.plateau);
+        let end = share_end(stream, plateau);
         *self = Watch {
             plateau,
             steady: Steady { share, end },

@@ -8,15 +8,15 @@ use Rattle.demand.proofs.normal.steady_from.Goals as goal
 pub returns-then-length-row : goal.returns-then-length-row
 returns-then-length-row g c =
     let s = c.args.stream.now in
-    let early = normal_early s.row.now (g.B.Bank.kind.ceiling s.bank.now s.number) c.args.length in
-    record { value = sym (early.is c.args.length (omega arith) c.if-length-row.true); holds = holds_later early }
+    let early = normal_early s.row.now (g.B.Bank.kind.ceiling s.bank.now s.number) s.length in
+    record { value = sym (early.is s.length (omega arith) c.if-length-row.true); holds = holds_later early }
 
 pub overflow_mul-result : goal.overflow_mul-result
 overflow_mul-result g c =
     let s = c.args.stream.now in
     let k = g.B.Bank.kind in
     let small = budget_fits (listed_within k s.bank.now s.number s.row.now s.listed) in
-    let fits = asked_product k g.met.B.Bank.lawful s.bank.now s.number s.row.now s.listed c.args.length s.row.now.short c.ceiling_at-level.result s.row.now.budget c.requires c.ceiling_at-level.ensures small in
+    let fits = asked_product k g.met.B.Bank.lawful s.bank.now s.number s.row.now s.listed s.length s.row.now.short c.level-level.result s.row.now.budget s.within c.level-level.ensures small in
     omega arith
 
 pub returns : goal.returns
@@ -25,8 +25,8 @@ returns g c =
     let s = c.args.stream.now in
     let k = g.B.Bank.kind in
     let small = budget_fits (listed_within k s.bank.now s.number s.row.now s.listed) in
-    let fits = asked_product k g.met.B.Bank.lawful s.bank.now s.number s.row.now s.listed c.args.length s.row.now.short c.ceiling_at-level.result s.row.now.budget c.requires c.ceiling_at-level.ensures small in
+    let fits = asked_product k g.met.B.Bank.lawful s.bank.now s.number s.row.now s.listed s.length s.row.now.short c.level-level.result s.row.now.budget s.within c.level-level.ensures small in
     record {
-      value = ap (λ (n : ℕ). n * s.row.now.budget) c.ceiling_at-level.ensures;
-      holds = normal_lasts s.row.now (k.ceiling s.bank.now s.number) c.args.length c.ceiling_at-level.result c.level_end.result c.level_end.ensures fits;
+      value = ap (λ (n : ℕ). n * s.row.now.budget) c.level-level.ensures;
+      holds = normal_lasts s.row.now (k.ceiling s.bank.now s.number) s.length c.level-level.result c.level_end.result c.level_end.ensures fits;
     }

@@ -10,19 +10,19 @@ use Rattle.demand.proofs.overrun.share_on.Goals as goal
 pub returns-in-Background-clause-value : goal.returns-in-Background-clause-value
 returns-in-Background-clause-value g c =
     let s = c.args.stream.now in
-    sym (share_of_background s.row.now (g.B.Bank.kind.ceiling s.bank.now s.number) c.args.length c.in-Background.is)
+    sym (share_of_background s.row.now (g.B.Bank.kind.ceiling s.bank.now s.number) s.length c.in-Background.is)
 
 pub returns-then-length-slack-clause-value : goal.returns-then-length-slack-clause-value
 returns-then-length-slack-clause-value g c =
     let s = c.args.stream.now in
-    sym (share_before_slack s.row.now (g.B.Bank.kind.ceiling s.bank.now s.number) c.args.length c.if-length-slack.true)
+    sym (share_before_slack s.row.now (g.B.Bank.kind.ceiling s.bank.now s.number) s.length c.if-length-slack.true)
 
 pub less_done-requires : goal.less_done-requires
 less_done-requires g c =
     let s = c.args.stream.now in
     let k = g.B.Bank.kind in
     let small = certain_fits (listed_within k s.bank.now s.number s.row.now s.listed) c.in-Critical.is in
-    asked_product k g.met.B.Bank.lawful s.bank.now s.number s.row.now s.listed c.args.length (slack s.row.now) c.ceiling_at-level.result s.row.now.certain c.requires.within c.ceiling_at-level.ensures small
+    asked_product k g.met.B.Bank.lawful s.bank.now s.number s.row.now s.listed s.length (slack s.row.now) c.level-level.result s.row.now.certain s.within c.level-level.ensures small
 
 pub returns-else-length-slack : goal.returns-else-length-slack
 returns-else-length-slack g c =
@@ -32,16 +32,16 @@ returns-else-length-slack g c =
     let b = s.bank.now in
     let i = s.number in
     let row = s.row.now in
-    let t = c.args.length in
+    let t = s.length in
     let w = listed_within k b i row l in
-    let is = c.ceiling_at-level.ensures in
+    let is = c.level-level.ensures in
     let late = c.if-length-slack.false in
     let critical = c.in-Critical.is in
     let p = c.at-plateau.result in
-    let flat = flat_now k g.met.B.Bank.lawful b i row l t c.ceiling_at-level.result c.args.seen p late critical c.requires.watched is c.at-plateau.ensures in
+    let flat = flat_now k g.met.B.Bank.lawful b i row l t c.level-level.result c.args.seen p late critical c.requires is c.at-plateau.ensures in
     let closed = plateau_share row (k.ceiling b i) w critical (listed_ceiling k g.met.B.Bank.lawful b i row l).rises t p.start p.level late flat in
-    let level : p.level ≡ c.ceiling_at-level.result = flat.value ∙ sym (back_after (k.ceiling b i) t (slack row) late) ∙ sym is in
-    let small = asked_product k g.met.B.Bank.lawful b i row l t (slack row) c.ceiling_at-level.result row.certain c.requires.within is (certain_fits w critical) in
+    let level : p.level ≡ c.level-level.result = flat.value ∙ sym (back_after (k.ceiling b i) t (slack row) late) ∙ sym is in
+    let small = asked_product k g.met.B.Bank.lawful b i row l t (slack row) c.level-level.result row.certain s.within is (certain_fits w critical) in
     let product = ap (λ (n : ℕ). n * row.certain) level in
     record {
       value = omega (arith, c.less_done.ensures);
