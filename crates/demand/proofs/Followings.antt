@@ -41,12 +41,3 @@ module _ {S M : Type 0} (k : Kind S) (b : S) where
   pub record Fresh (blank : M) (i : ℕ) (stream : Followed M) : Type 0 where
     pub listed : Listed k b i stream.row
     pub memory : stream.memory ≡ blank
-
-  pub fresh_follows : (right : Row → (ℕ → ℕ) → ℕ → M → Type 0) (blank : M) (streams : List (Followed M)) → length streams ≡ k.streams b → ((i : ℕ) (d : Followed M) → i < length streams → Fresh blank (i + 1) (get_or streams i d)) → Unknown k b right blank streams
-  fresh_follows right blank streams whole each t begins = record {
-    whole = whole;
-    each = λ i d within.
-        let fresh = each i d within in
-        let row : Row = (get_or streams i d).row in
-        record { listed = fresh.listed; memory = subst (λ (m : M). right row (k.ceiling b (i + 1)) t m) (sym fresh.memory) (begins row (k.ceiling b (i + 1))) };
-  }

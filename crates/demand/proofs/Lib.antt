@@ -5,7 +5,6 @@ pub mod Watches
 pub mod Totals
 pub mod Multiples
 pub mod Nearest
-pub mod Loading
 pub mod Beyond
 pub mod Uniqueness
 pub mod Deciding

@@ -32,10 +32,6 @@ asked_product k laws b i row l t v n budget h e small =
     let most = back_at_most (listed_ceiling k laws b i row l) (listed_within k b i row l) t v h in
     product_fits n budget (omega arith) small
 
--- a bank has a record for each of its streams
-pub no_record_missing : {S : Type 0} (k : Kind S) → Laws k → (b : S) (i : ℕ) → 1 ≤ i → i ≤ k.streams b → k.records b i ≡ None → ⊥
-no_record_missing k laws b i some within e = false≢true (sym (ap is_some e) ∙ laws.listed b i some within)
-
 -- a common multiple of the gaps of all streams, said of the streams up to the last
 pub common_multiple : {S : Type 0} (k : Kind S) (b : S) (n m : ℕ) → Common k b m → Multiple k b n m
 common_multiple k b n m c = record { some = c.some; divided = λ i r _. c.divided i r }

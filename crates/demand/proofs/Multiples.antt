@@ -9,13 +9,6 @@ use Rattle.bank.specs.Laws.{Laws}
 use Rattle.demand.specs.Multiples.{Multiple, LeastMultiple, NextMultiple}
 
 module _ {S : Type 0} (k : Kind S) (b : S) where
-  -- streams are numbered from 1
-  pub least_none : Laws k → LeastMultiple k b 1 1
-  least_none laws = record {
-    multiple = record { some = omega arith; divided = λ i r lt e. let place = laws.numbered b i r e in absurd (let z : ⊥ = omega arith in z) };
-    least = λ m mult. mult.some;
-  }
-
   multiple_fewer : (n p m : ℕ) → p ≤ n → Multiple k b n m → Multiple k b p m
   multiple_fewer n p m h mult = record { some = mult.some; divided = λ i r l. mult.divided i r (omega arith) }
 
@@ -90,16 +83,3 @@ module _ {S : Type 0} (k : Kind S) (b : S) where
         (λ (far : 1000000 < m). far)
         (λ (near : m ≤ 1000000). absurd (none (m / h) t.1 (omega (arith, t.0)) t.2))
         (cases_lt 1000000 m)
-
--- the multiples of h that are tried are those within the limit
-pub tried_near : (times h limit : ℕ) → times ≤ limit / h → times * h ≤ limit
-tried_near times h limit l = let up = mul-le-mul_right h l in omega (arith, mod-add-div' limit h)
-
-pub near_tried : (p h limit : ℕ) → 1 ≤ h → p * h ≤ limit → p ≤ limit / h
-near_tried p h limit some near =
-    ⊎_elim
-    (λ (far : limit / h < p).
-    let up : (limit / h + 1) * h ≤ p * h = mul-le-mul_right h (omega arith) in
-    let z : ⊥ = omega (arith, add-mul (limit / h) 1 h, one-mul h, mod-add-div' limit h) in absurd z)
-    (λ (l : p ≤ limit / h). l)
-    (cases_lt (limit / h) p)

@@ -15,20 +15,6 @@ use Rattle.demand.specs.Watching.{Flat, Seen, Watched, Holds, Kept}
 use Rattle.demand.proofs.Plateaus.{plateau_share, share_before_slack}
 use Rattle.demand.proofs.Watches.{flat_seen}
 
-back_rises : {r : Row} {k : ℕ} {N : ℕ → ℕ} → Ceiling r k N → (s t v : ℕ) → s ≤ t → back N s v ≤ back N t v
-back_rises {r} {k} {N} law s t v h =
-    ⊎_elim
-    (λ (early : s < v). let z = back_before N s v early in omega arith)
-    (λ (late : v ≤ s). let low = back_after N s v late in let high = back_after N t v (omega arith) in let up = law.rises (s - v) (t - v) (omega arith) in omega arith)
-    (cases_lt s v)
-
--- a ceiling that is the same at two lengths is the same between them
-pub level_lasts : {r : Row} {k : ℕ} {N : ℕ → ℕ} → Ceiling r k N → (t last v level : ℕ) → level ≡ back N t v → level ≡ back N last v → (q : ℕ) → t ≤ q → q < last + 1 → back N q v ≡ level
-level_lasts {r} {k} {N} law t last v level here there q from upto =
-    let low = back_rises law t q v from in
-    let high = back_rises law q last v (omega arith) in
-    omega arith
-
 pub holds_later : {f : ℕ → ℕ} {t : ℕ} {s : Steady} → Holds f t s → Holds f (t + 1) s
 holds_later h = record { is = λ q from. h.is q (omega arith); small = h.small }
 
@@ -41,13 +27,6 @@ normal_early row N t =
 pub normal_lasts : (row : Row) (N : ℕ → ℕ) (t level end : ℕ) → ((q : ℕ) → t ≤ q → q < end → back N q row.short ≡ level) → level * row.budget < 2 ^ 37 → Holds (normal_share row N) (t + 1) (record { share = level * row.budget; end = end })
 unfolding normal_share
 normal_lasts row N t level end same small = record { is = λ q from before. ap (λ (n : ℕ). n * row.budget) (same q (omega arith) before); small = small }
-
--- below its slack a stream is not asked, so nothing changes
-pub early_stays : (row : Row) (N : ℕ → ℕ) (t : ℕ) (p : Plateau) → t < slack row → Watched row N (t + 1) p → (q : ℕ) → t < q → q < slack row → Watched row N (q + 1) p
-early_stays row N t p early w q from before critical =
-    let At : ℕ → Type 0 = λ n. Seen N n p in
-    let same : t + 1 - slack row ≡ q + 1 - slack row = omega arith in
-    subst At same (w critical)
 
 pub early_same : (row : Row) (N : ℕ → ℕ) (t : ℕ) → t < slack row → (q : ℕ) → t < q → q < slack row → overrun_share row N q ≡ overrun_share row N t
 early_same row N t early q from before = share_before_slack row N q before ∙ sym (share_before_slack row N t early)
@@ -83,6 +62,3 @@ module _ {k : ℕ} {N : ℕ → ℕ} (row : Row) (law : Ceiling row k N) (w : Wi
       let now = plateau_share row N w critical law.rises t p.start p.level late (known_flat row N t p critical late watched) in
       let then = plateau_share row N w critical law.rises q p.start p.level (omega arith) (longer q from before) in
       omega (arith, now, then)
-
-pub kept_later : (row : Row) (N : ℕ → ℕ) (t : ℕ) (w : Watch) → t < w.steady.end → Kept row N t w → Kept row N (t + 1) w
-kept_later row N t w h kept = record { watched = kept.stays t (omega arith) h; share = holds_later kept.share; stays = λ q from. kept.stays q (omega arith) }

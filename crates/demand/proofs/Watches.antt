@@ -49,13 +49,6 @@ flat_seen N m next p flat e =
     let back : m ≡ next - 1 = omega arith in
     record { unasked = λ z. let w : ⊥ = omega arith in absurd w; asked = λ l. subst At back flat }
 
--- below its slack a stream is not asked
-pub watched_early : (row : Row) (N : ℕ → ℕ) (t : ℕ) (p : Plateau) → t < slack row → Watched row N t p → Watched row N (t + 1) p
-watched_early row N t p early w critical =
-    let At : ℕ → Type 0 = λ n. Seen N n p in
-    let same : t - slack row ≡ t + 1 - slack row = omega arith in
-    subst At same (w critical)
-
 -- a critical stream that is asked at t, past its slack, is then known to lie on the plateau that is handed on
 pub flat_now : {S : Type 0} (k : Kind S) → Laws k → (b : S) (i : ℕ) (row : Row) → Listed k b i row → (t level : ℕ) (seen p : Plateau) → slack row ≤ t → row.class ≡ Critical → Watched row (k.ceiling b i) t seen → level ≡ back (k.ceiling b i) t (slack row) → p ≡ moved seen (t - slack row) level → Flat (k.ceiling b i) (t - slack row) p.start p.level
 flat_now k laws b i row l t level seen p late critical watched is moves =

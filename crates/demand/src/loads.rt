@@ -19,6 +19,7 @@ fn load_of<B: Bank>(bank: &B, stream: u64) -> u64
 }
 
 // The load of a bank, in thousandths of the worker. Each stream's part is rounded down.
+#[tactic(auto, using(crate::proofs::Totals::total_before, crate::proofs::Totals::total_none))]
 pub fn load<B: Bank>(bank: &B) -> u64
     ensures { result ≡ total_load B.kind bank.now }
 {

@@ -1,12 +1,9 @@
 use Rattle.std.proofs.Common.{◌+◌, sym, ◌∙◌, arith}
 use Rattle.std.proofs.lemmas.Result.{err_from_is_err_and}
 use Rattle.demand.proofs.Listing.{common_multiple, least_horizon}
-use Rattle.demand.proofs.Multiples.{least_none, least_absent, least_more, none_more}
+use Rattle.demand.proofs.Multiples.{least_absent, least_more, none_more}
 use Rattle.demand.proofs.horizon.common_multiple.Goals as goal
 use Rattle.demand.proofs.horizon.common_multiple.Goals.{in-Some+in_ok-h, in_default}
-
-pub loop-stream-init : goal.loop-stream-init
-loop-stream-init g c = (least_none g.B.Bank.kind c.args.bank.now g.met.B.Bank.lawful, omega arith)
 
 pub loop-stream-preserved : goal.loop-stream-preserved
 loop-stream-preserved g c =
