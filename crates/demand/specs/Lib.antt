@@ -3,7 +3,6 @@ pub mod Demands
 pub mod Horizons
 pub mod Multiples
 pub mod Watching
-pub mod Blanks
 pub mod Listing
 pub mod Following
 pub mod Verdicts

@@ -4,7 +4,7 @@ ghost use Rattle.std.specs.Prelude.{◌≡◌, ◌+◌, ◌≤◌};
 ghost use Rattle.stream.specs.declared.Phase.TheVariants.{Normal};
 ghost use Rattle.demand.specs.Shares.{normal_share};
 ghost use Rattle.demand.specs.Watching.{Holds};
-ghost use Rattle.demand.specs.Blanks.{steady_blank};
+ghost use Rattle.std.proofs.Common.{rules};
 
 use crate::asked::Asked;
 use crate::memory::Memory;
@@ -39,7 +39,7 @@ impl Memory for Steady {
 
     ghost right = { λ row N t s. Holds (normal_share row N) t s };
 
-    ghost begins = { λ row N. steady_blank (normal_share row N) 0 };
+    ghost begins = { Prim.search rules };
 
     const PHASE: Phase = Phase::Normal;
 

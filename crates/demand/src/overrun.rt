@@ -4,7 +4,7 @@ ghost use Rattle.std.specs.Prelude.{◌≡◌, ℕ, ◌+◌, ◌-◌, ◌*◌, �
 ghost use Rattle.stream.specs.declared.Phase.TheVariants.{Overrun};
 ghost use Rattle.demand.specs.Shares.{overrun_share};
 ghost use Rattle.demand.specs.Watching.{Kept, Watched, moved};
-ghost use Rattle.demand.specs.Blanks.{watch_blank};
+ghost use Rattle.std.proofs.Common.{rules};
 
 use crate::asked::Asked;
 use crate::memory::Memory;
@@ -35,6 +35,7 @@ fn less_done(row: &Row, level: u64, since: u64) -> u64
 }
 
 // The overrun share, and the plateau from here on. The n that counts is the last one on the plateau, so no other is tried.
+#[tactic(auto, using(crate::proofs::Plateaus::share_of_background, crate::proofs::Plateaus::share_before_slack))]
 fn share_on<B: Bank>(stream: &Asked<B>, seen: Plateau) -> (Plateau, u64)
     requires { Watched stream.now.row.now (B.kind.ceiling stream.now.bank.now stream.now.number) stream.now.length seen }
     ensures value { result.1 ≡ overrun_share stream.now.row.now (B.kind.ceiling stream.now.bank.now stream.now.number) stream.now.length }
@@ -58,6 +59,7 @@ fn share_on<B: Bank>(stream: &Asked<B>, seen: Plateau) -> (Plateau, u64)
 }
 
 // Where the overrun share may change again: past its slack, a carried-over job first has to do its budget, and then the plateau has to end.
+#[tactic(auto, using(crate::proofs::Plateaus::share_of_background, crate::proofs::Plateaus::share_before_slack))]
 fn share_end<B: Bank>(stream: &Asked<B>, plateau: Plateau) -> u64
     requires { Watched stream.now.row.now (B.kind.ceiling stream.now.bank.now stream.now.number) (stream.now.length + 1) plateau }
     ensures share { (q : ℕ) → stream.now.length < q → q < result → overrun_share stream.now.row.now (B.kind.ceiling stream.now.bank.now stream.now.number) q ≡ overrun_share stream.now.row.now (B.kind.ceiling stream.now.bank.now stream.now.number) stream.now.length }
@@ -87,7 +89,7 @@ impl Memory for Watch {
 
     ghost right = { Kept };
 
-    ghost begins = { watch_blank };
+    ghost begins = { Prim.search rules };
 
     const PHASE: Phase = Phase::Overrun;
 

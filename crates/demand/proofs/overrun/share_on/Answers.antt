@@ -7,16 +7,6 @@ use Rattle.bank.proofs.Backs.{back_after}
 use Rattle.demand.proofs.Widths.{certain_fits}
 use Rattle.demand.proofs.overrun.share_on.Goals as goal
 
-pub returns-in-Background-clause-value : goal.returns-in-Background-clause-value
-returns-in-Background-clause-value g c =
-    let s = c.args.stream.now in
-    sym (share_of_background s.row.now (g.B.Bank.kind.ceiling s.bank.now s.number) s.length c.in-Background.is)
-
-pub returns-then-length-slack-clause-value : goal.returns-then-length-slack-clause-value
-returns-then-length-slack-clause-value g c =
-    let s = c.args.stream.now in
-    sym (share_before_slack s.row.now (g.B.Bank.kind.ceiling s.bank.now s.number) s.length c.if-length-slack.true)
-
 pub less_done-requires : goal.less_done-requires
 less_done-requires g c =
     let s = c.args.stream.now in
