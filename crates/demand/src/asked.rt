@@ -33,7 +33,8 @@ impl<'a, 'b, B: Bank> Asked<'a, 'b, B> {
     // The ceiling now.
     pub(crate) fn level(&self, before: u64) -> u64
         requires { before ≤ 65535 }
-        ensures { result ≡ back (B.kind.ceiling self.now.bank.now self.now.number) self.now.length before }
+        ensures value { result ≡ back (B.kind.ceiling self.now.bank.now self.now.number) self.now.length before }
+        ensures bound { result ≤ 1065535 }
     {
         self.ceiling_at(self.length, before)
     }

@@ -1,18 +1,17 @@
 use Rattle.std.proofs.Common.{◌≡◌, ℕ, ◌+◌, ◌-◌, ◌*◌, sym, ap, ◌∙◌, arith}
 use Rattle.demand.specs.Shares.{slack}
-use Rattle.demand.proofs.Listing.{listed_within, listed_ceiling, asked_product}
+use Rattle.demand.proofs.Listing.{listed_within, listed_ceiling}
 use Rattle.demand.proofs.Plateaus.{plateau_share, share_before_slack, share_of_background}
 use Rattle.demand.proofs.Watches.{flat_now, flat_seen}
 use Rattle.bank.proofs.Backs.{back_after}
-use Rattle.demand.proofs.Widths.{certain_fits}
+use Rattle.demand.proofs.Widths.{certain_fits, product_fits}
 use Rattle.demand.proofs.overrun.share_on.Goals as goal
 
 pub less_done-requires : goal.less_done-requires
 less_done-requires g c =
     let s = c.args.stream.now in
-    let k = g.B.Bank.kind in
-    let small = certain_fits (listed_within k s.bank.now s.number s.row.now s.listed) c.in-Critical.is in
-    asked_product k g.met.B.Bank.lawful s.bank.now s.number s.row.now s.listed s.length (slack s.row.now) c.level-level.result s.row.now.certain s.within c.level-level.ensures small
+    let w = listed_within g.B.Bank.kind s.bank.now s.number s.row.now s.listed in
+    product_fits c.level-level.result s.row.now.certain c.level-level.ensures.bound (certain_fits w c.in-Critical.is)
 
 pub returns-else-length-slack : goal.returns-else-length-slack
 returns-else-length-slack g c =
@@ -24,14 +23,14 @@ returns-else-length-slack g c =
     let row = s.row.now in
     let t = s.length in
     let w = listed_within k b i row l in
-    let is = c.level-level.ensures in
+    let is = c.level-level.ensures.value in
     let late = c.if-length-slack.false in
     let critical = c.in-Critical.is in
     let p = c.at-plateau.result in
     let flat = flat_now k g.met.B.Bank.lawful b i row l t c.level-level.result c.args.seen p late critical c.requires is c.at-plateau.ensures in
     let closed = plateau_share row (k.ceiling b i) w critical (listed_ceiling k g.met.B.Bank.lawful b i row l).rises t p.start p.level late flat in
     let level : p.level ≡ c.level-level.result = flat.value ∙ sym (back_after (k.ceiling b i) t (slack row) late) ∙ sym is in
-    let small = asked_product k g.met.B.Bank.lawful b i row l t (slack row) c.level-level.result row.certain s.within is (certain_fits w critical) in
+    let small = product_fits c.level-level.result row.certain c.level-level.ensures.bound (certain_fits w critical) in
     let product = ap (λ (n : ℕ). n * row.certain) level in
     record {
       value = omega (arith, c.less_done.ensures);
