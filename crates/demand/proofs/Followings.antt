@@ -1,12 +1,10 @@
 -- The streams that are followed: how they are listed one by one, and brought from one length to the next.
 
-use Rattle.std.proofs.Common.{◌≡◌, ℕ, ◌+◌, ◌<◌, ◌≤◌, ◌≢◌, List, length, get_or, set, sym, ◌∙◌, subst, ⊎_elim, arith, length-set}
+use Rattle.std.proofs.Common.{◌≡◌, ℕ, ◌+◌, ◌<◌, ◌≤◌, ◌≢◌, List, length, get_or, set, sym, subst, ⊎_elim, arith, length-set}
 use Rattle.std.proofs.lemmas.List.{get_or-set_same, get_or-set_other}
 use Rattle.std.proofs.lemmas.Bool.{cases_lt}
-use Rattle.stream.specs.declared.Row.{Row}
 use Rattle.bank.specs.Kinds.{Kind}
 use Rattle.demand.specs.Listing.{Listed}
-use Rattle.demand.specs.Following.{Follow, Follows, Unknown}
 use Rattle.demand.specs.declared.demands.Followed.{Followed}
 
 -- The items are done one after another: P is true of the n that are done, and Q of the others.

@@ -1,17 +1,15 @@
 -- What the laws of a bank say of a stream whose row is known.
 
-use Rattle.std.proofs.Common.{◌≡◌, ℕ, ◌+◌, ◌*◌, ◌%◌, ◌^◌, ◌<◌, ◌≤◌, Some, None, Option, is_some, sym, refl, ap, ◌∙◌, subst, arith}
-use Rattle.std.proofs.lemmas.Bool.{false≢true}
+use Rattle.std.proofs.Common.{◌≡◌, ℕ, ◌<◌, Some, None, Option, refl, subst, arith}
 use Rattle.stream.specs.Limits.{Within}
 use Rattle.stream.specs.declared.Row.{Row}
 use Rattle.stream.specs.declared.limits.Record.{Record}
-use Rattle.bank.specs.Ceilings.{Ceiling, back}
+use Rattle.bank.specs.Ceilings.{Ceiling}
 use Rattle.bank.specs.Kinds.{Kind}
 use Rattle.bank.specs.Laws.{Laws}
 use Rattle.demand.specs.Horizons.{Common, Horizon}
 use Rattle.demand.specs.Listing.{row_of, Listed}
 use Rattle.demand.specs.Multiples.{Multiple, LeastMultiple}
-use Rattle.demand.proofs.Widths.{back_at_most, product_fits}
 
 pub listed_record : (found : Option Record) (row : Row) → row_of found ≡ Some row → (r : Record) × (found ≡ Some r) × (r.row ≡ row)
 listed_record None row e = cc
@@ -25,12 +23,6 @@ listed_ceiling k laws b i row l =
     let found = listed_record (k.records b i) row l in
     let P : Row → Type 0 = λ x. Ceiling x (k.count b i) (k.ceiling b i) in
     subst P found.2 (laws.ceilings b i found.0 found.1)
-
--- a ceiling that is asked for, times a budget, is far from the limit of 64 bits
-pub asked_product : {S : Type 0} (k : Kind S) → Laws k → (b : S) (i : ℕ) (row : Row) → Listed k b i row → (t v n budget : ℕ) → t ≤ 1000000 → n ≡ back (k.ceiling b i) t v → budget ≤ 65535 → n * budget < 2 ^ 37
-asked_product k laws b i row l t v n budget h e small =
-    let most = back_at_most (listed_ceiling k laws b i row l) (listed_within k b i row l) t v h in
-    product_fits n budget (omega arith) small
 
 -- a common multiple of the gaps of all streams, said of the streams up to the last
 pub common_multiple : {S : Type 0} (k : Kind S) (b : S) (n m : ℕ) → Common k b m → Multiple k b n m

@@ -1,11 +1,10 @@
 -- The least common multiple grows gap by gap: a common multiple is a multiple of the least one, since what is left over would be a smaller one.
 
-use Rattle.std.proofs.Common.{◌≡◌, ℕ, ◌+◌, ◌*◌, ◌/◌, ◌%◌, ◌<◌, ◌≤◌, Some, None, sym, ap, ◌∙◌, subst, ⊎_elim, mul-le-mul_right, add-mul, one-mul, zero-mul, arith}
+use Rattle.std.proofs.Common.{◌≡◌, ℕ, ◌+◌, ◌*◌, ◌/◌, ◌%◌, ◌<◌, ◌≤◌, Some, None, sym, ap, ◌∙◌, ⊎_elim, mul-le-mul_right, one-mul, zero-mul, arith}
 use native.Mathlib.Nat.{mod-add-div', dvd-mul_left_of_dvd, dvd_of_mod-eq-zero, mod-eq-zero_of_dvd, mod-mod_of_dvd}
 use Rattle.std.proofs.lemmas.Bool.{cases_eq, cases_lt}
 use Rattle.stream.specs.declared.limits.Record.{Record}
 use Rattle.bank.specs.Kinds.{Kind}
-use Rattle.bank.specs.Laws.{Laws}
 use Rattle.demand.specs.Multiples.{Multiple, LeastMultiple, NextMultiple}
 
 module _ {S : Type 0} (k : Kind S) (b : S) where

@@ -1,35 +1,16 @@
 -- Shares that stay the same for a while.
 
-use Rattle.std.proofs.Common.{◌≡◌, ℕ, ◌+◌, ◌-◌, ◌*◌, ◌^◌, ◌<◌, ◌≤◌, sym, ap, ◌∙◌, subst, ⊎_elim, arith}
-use Rattle.std.proofs.lemmas.Bool.{cases_lt}
+use Rattle.std.proofs.Common.{◌≡◌, ℕ, ◌+◌, ◌-◌, ◌<◌, ◌≤◌, sym, ◌∙◌, subst, arith}
 use Rattle.stream.specs.Limits.{Within}
 use Rattle.stream.specs.declared.Class.TheVariants.{Critical}
 use Rattle.stream.specs.declared.Row.{Row}
 use Rattle.bank.specs.Ceilings.{Ceiling, back}
-use Rattle.bank.proofs.Backs.{back_before, back_after}
+use Rattle.bank.proofs.Backs.{back_after}
 use Rattle.demand.specs.declared.Plateau.{Plateau}
-use Rattle.demand.specs.declared.Steady.{Steady}
-use Rattle.demand.specs.declared.Watch.{Watch}
-use Rattle.demand.specs.Shares.{normal_share, overrun_share, slack}
-use Rattle.demand.specs.Watching.{Flat, Seen, Watched, Holds, Kept}
-use Rattle.demand.proofs.Plateaus.{plateau_share, share_before_slack}
+use Rattle.demand.specs.Shares.{overrun_share, slack}
+use Rattle.demand.specs.Watching.{Flat, Watched}
+use Rattle.demand.proofs.Plateaus.{plateau_share}
 use Rattle.demand.proofs.Watches.{flat_seen}
-
-pub holds_later : {f : ℕ → ℕ} {t : ℕ} {s : Steady} → Holds f t s → Holds f (t + 1) s
-holds_later h = record { is = λ q from. h.is q (omega arith); small = h.small }
-
-pub normal_early : (row : Row) (N : ℕ → ℕ) (t : ℕ) → Holds (normal_share row N) t (record { share = 0; end = row.short })
-unfolding normal_share
-normal_early row N t =
-    let none : 0 * row.budget ≡ 0 = omega arith in
-    record { is = λ q from before. ap (λ (n : ℕ). n * row.budget) (back_before N q row.short before) ∙ none; small = omega arith }
-
-pub normal_lasts : (row : Row) (N : ℕ → ℕ) (t level end : ℕ) → ((q : ℕ) → t ≤ q → q < end → back N q row.short ≡ level) → level * row.budget < 2 ^ 37 → Holds (normal_share row N) (t + 1) (record { share = level * row.budget; end = end })
-unfolding normal_share
-normal_lasts row N t level end same small = record { is = λ q from before. ap (λ (n : ℕ). n * row.budget) (same q (omega arith) before); small = small }
-
-pub early_same : (row : Row) (N : ℕ → ℕ) (t : ℕ) → t < slack row → (q : ℕ) → t < q → q < slack row → overrun_share row N q ≡ overrun_share row N t
-early_same row N t early q from before = share_before_slack row N q before ∙ sym (share_before_slack row N t early)
 
 -- the plateau that is known once a length has been asked for
 pub known_flat : (row : Row) (N : ℕ → ℕ) (t : ℕ) (p : Plateau) → row.class ≡ Critical → slack row ≤ t → Watched row N (t + 1) p → Flat N (t - slack row) p.start p.level

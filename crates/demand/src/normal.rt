@@ -13,7 +13,7 @@ use bank::Bank;
 use stream::Phase;
 
 // The normal share from here on.
-#[tactic(auto, using(crate::proofs::Widths::product_fits, crate::proofs::Widths::budget_fits))]
+#[tactic(auto, using(crate::proofs::Listing::listed_within, crate::proofs::Widths::product_fits, crate::proofs::Widths::budget_fits), unfolding(crate::specs::Shares::normal_share))]
 fn steady_from<B: Bank>(stream: &Asked<B>) -> Steady
     ensures value { result.share ≡ normal_share stream.now.row.now (B.kind.ceiling stream.now.bank.now stream.now.number) stream.now.length }
     ensures holds { Holds (normal_share stream.now.row.now (B.kind.ceiling stream.now.bank.now stream.now.number)) (stream.now.length + 1) result }

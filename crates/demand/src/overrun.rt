@@ -35,7 +35,7 @@ fn less_done(row: &Row, level: u64, since: u64) -> u64
 }
 
 // The overrun share, and the plateau from here on. The n that counts is the last one on the plateau, so no other is tried.
-#[tactic(auto, using(crate::proofs::Plateaus::share_of_background, crate::proofs::Plateaus::share_before_slack, crate::proofs::Widths::product_fits, crate::proofs::Widths::certain_fits))]
+#[tactic(auto, using(crate::proofs::Plateaus::share_of_background, crate::proofs::Plateaus::share_before_slack, crate::proofs::Listing::listed_within, crate::proofs::Widths::certain_fits, crate::proofs::Widths::product_fits))]
 fn share_on<B: Bank>(stream: &Asked<B>, seen: Plateau) -> (Plateau, u64)
     requires { Watched stream.now.row.now (B.kind.ceiling stream.now.bank.now stream.now.number) stream.now.length seen }
     ensures value { result.1 ≡ overrun_share stream.now.row.now (B.kind.ceiling stream.now.bank.now stream.now.number) stream.now.length }

@@ -1,4 +1,3 @@
-use Rattle.std.proofs.Common.{◌≡◌, length}
 use Rattle.demand.proofs.Followings.{Fresh, Passing}
 use Rattle.demand.proofs.demands.list.Given as goal
 

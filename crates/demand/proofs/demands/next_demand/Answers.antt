@@ -1,5 +1,5 @@
-use Rattle.std.proofs.Common.{◌≡◌, ℕ, ◌+◌, ◌<◌, length, get_or, sym, ap, ◌∙◌, arith}
-use Rattle.demand.specs.Demands.{total, asks}
+use Rattle.std.proofs.Common.{◌+◌, ◌<◌, length, sym, ◌∙◌, arith}
+use Rattle.demand.specs.Demands.{asks}
 use Rattle.demand.specs.Following.{Follow}
 use Rattle.demand.proofs.Followings.{passing_none, passing_more}
 use Rattle.demand.proofs.Totals.{total_none, total_step, asks_listed}

@@ -1,7 +1,5 @@
-use Rattle.std.proofs.Common.{sym, ◌∙◌}
 use Rattle.demand.proofs.Listing.{listed_within, listed_ceiling}
-use Rattle.demand.proofs.Plateaus.{share_of_background}
-use Rattle.demand.proofs.Steadies.{early_same, plateau_lasts, share_lasts}
+use Rattle.demand.proofs.Steadies.{plateau_lasts, share_lasts}
 use Rattle.demand.proofs.overrun.share_end.Goals as goal
 
 pub returns-else-length-slack-2 : goal.returns-else-length-slack-2

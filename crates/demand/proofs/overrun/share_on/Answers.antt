@@ -1,17 +1,11 @@
 use Rattle.std.proofs.Common.{◌≡◌, ℕ, ◌+◌, ◌-◌, ◌*◌, sym, ap, ◌∙◌, arith}
 use Rattle.demand.specs.Shares.{slack}
 use Rattle.demand.proofs.Listing.{listed_within, listed_ceiling}
-use Rattle.demand.proofs.Plateaus.{plateau_share, share_before_slack, share_of_background}
+use Rattle.demand.proofs.Plateaus.{plateau_share}
 use Rattle.demand.proofs.Watches.{flat_now, flat_seen}
 use Rattle.bank.proofs.Backs.{back_after}
 use Rattle.demand.proofs.Widths.{certain_fits, product_fits}
 use Rattle.demand.proofs.overrun.share_on.Goals as goal
-
-pub less_done-requires : goal.less_done-requires
-less_done-requires g c =
-    let s = c.args.stream.now in
-    let w = listed_within g.B.Bank.kind s.bank.now s.number s.row.now s.listed in
-    product_fits c.level-level.result s.row.now.certain c.level-level.ensures.bound (certain_fits w c.in-Critical.is)
 
 pub returns-else-length-slack : goal.returns-else-length-slack
 returns-else-length-slack g c =
