@@ -111,9 +111,14 @@ pub record Decided {S : Type 0} (k : Kind S) (b : S) (answer : Result Verdict Re
   pub says : Says k b answer
   pub exactly : ExactlyWhen k b answer
 
--- the refusal at a length that a demand exceeds
-abbrev pub exceeded_at : {S : Type 0} → Kind S → S → ℕ → Phase → ℕ → Refusal
-exceeded_at k b h p t = DemandExceeded (record { horizon = h; lengths = t + 1; point = point_at k b p t })
+-- the demand of a phase fits, and this is its point
+pub record Passes {S : Type 0} (k : Kind S) (b : S) (p : Phase) (t : ℕ) (point : Point) : Type 0 where
+  pub fits : demand k b p t ≤ t
+  pub is : point ≡ point_at k b p t
+
+-- why the test stops at a length
+abbrev pub Stops : {S : Type 0} → Kind S → S → ℕ → Phase → ℕ → Refusal → Type 0
+Stops k b h p t e = (t < demand k b p t) × (e ≡ DemandExceeded (record { horizon = h; lengths = t + 1; point = point_at k b p t }))
 
 -- the points that the next one is chosen from
 abbrev pub candidates : Option Point → Point → Point → List Point

@@ -3,9 +3,8 @@
 ghost use Rattle.std.specs.Prelude.{◌≡◌, ◌+◌, ◌<◌, ◌≤◌, MatchResult};
 ghost use Rattle.least.specs.Firsts.{FirstLeast};
 ghost use Rattle.least.specs.Orders.{by_margin, point_below};
-ghost use Rattle.demand.specs.Demands.{demand};
 ghost use Rattle.demand.specs.Following.{Follows, Places};
-ghost use Rattle.demand.specs.Verdicts.{InReach, Accepts, Refuses, point_at, exceeded_at, candidates};
+ghost use Rattle.demand.specs.Verdicts.{InReach, Accepts, Passes, Refuses, Stops, candidates};
 
 use crate::demands::{Followed, list, next_demand};
 use crate::memory::Memory;
@@ -23,7 +22,7 @@ fn look<B: Bank, M: Memory>(
 ) -> Result<Point, Refusal>
     requires within { length ≤ 1000000 }
     requires follows { Follows B.kind bank.now M.right length streams.old }
-    ensures cases { MatchResult result (λ point. (demand B.kind bank.now M.PHASE length ≤ length) × (point ≡ point_at B.kind bank.now M.PHASE length)) (λ e. (length < demand B.kind bank.now M.PHASE length) × (e ≡ exceeded_at B.kind bank.now horizon M.PHASE length)) }
+    ensures cases { MatchResult result (λ point. Passes B.kind bank.now M.PHASE length point) (λ e. Stops B.kind bank.now horizon M.PHASE length e) }
     ensures follows { Follows B.kind bank.now M.right (length + 1) streams.new }
 {
     let point = Point {

@@ -18,8 +18,8 @@ loop-length-preserved g c =
     let t = c.loop-length.length in
     let normal = c.in_ok-normal.ensures in
     let overrun = c.in_ok-overrun.ensures in (
-      below_more (λ s. Fits k b s) t c.loop-length.invariant.0 (normal.cases.0, overrun.cases.0),
+      below_more (λ s. Fits k b s) t c.loop-length.invariant.0 (normal.cases.fits, overrun.cases.fits),
       normal.follows,
       overrun.follows,
-      nearest_upto k b t (t + 1 - 1) c.loop-length.nearest c.in_ok-normal.normal c.in_ok-overrun.overrun c.keep_nearest.new.nearest (omega arith) normal.cases.1 overrun.cases.1 c.loop-length.invariant.3 c.keep_nearest.ensures.first c.keep_nearest.ensures.later,
+      nearest_upto k b t (t + 1 - 1) c.loop-length.nearest c.in_ok-normal.normal c.in_ok-overrun.overrun c.keep_nearest.new.nearest (omega arith) normal.cases.is overrun.cases.is c.loop-length.invariant.3 c.keep_nearest.ensures.first c.keep_nearest.ensures.later,
     )
