@@ -48,7 +48,7 @@ pub(crate) fn list<B: Bank, M: Memory>(bank: &B, streams: &mut [Followed<M>])
     }
 }
 
-// The demand at a length, one length after the one before.
+// The demand at a length, one length after the one before. Bank, streams and length in a struct with a model miss a bar of speed (docs/SPEED.md).
 pub(crate) fn next_demand<B: Bank, M: Memory>(
     bank: &B,
     streams: &mut [Followed<M>],

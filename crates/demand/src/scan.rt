@@ -91,7 +91,7 @@ fn scan_places<B: Bank>(
     }
 }
 
-// The same, with places for the streams. An `ArrayVec` in their place misses the bar for small plans (docs/SPEED.md).
+// The same, with places for the streams. An `ArrayVec` in place of the arrays misses a bar of speed (docs/SPEED.md).
 pub(crate) fn scan<B: Bank>(bank: &B, horizon: u64) -> Result<Verdict, Refusal>
     requires { InReach B.kind bank.now horizon }
     ensures { MatchResult result (λ v. Accepts B.kind bank.now v) (λ e. Refuses B.kind bank.now e) }
