@@ -8,7 +8,7 @@ use Rattle.stream.specs.declared.Verdict.{Verdict}
 use Rattle.bank.specs.Kinds.{Kind}
 use Rattle.bank.specs.Laws.{Laws}
 use Rattle.demand.specs.Demands.{Feasible}
-use Rattle.demand.specs.Verdicts.{InReach, Accepts, Exceeds, Far, Refuses, Judged, Says, Decided}
+use Rattle.demand.specs.Verdicts.{InReach, Accepts, Exceeds, Far, Refuses, Says, Decided}
 use Rattle.demand.proofs.Beyond.{fits_beyond}
 use Rattle.demand.proofs.Uniqueness.{exceeded, not_far, one_accepted, one_exceeded}
 
@@ -94,10 +94,6 @@ module _ {S : Type 0} (k : Kind S) (b : S) where
       only = λ other s. only_answer answer other says s;
     };
   }
-
-  pub seen : (answer : Result Verdict Refusal) → MatchResult answer (λ v. Accepts k b v) (λ e. Refuses k b e) → Judged k b answer
-  seen (Ok v) accepts = accepts
-  seen (Err e) refuses = refuses
 
   pub scanned : Laws k → (answer : Result Verdict Refusal) → MatchResult answer (λ v. Accepts k b v) (λ e. Refuses k b e) → Decided k b answer
   scanned laws (Ok v) looked = judged (Ok v) (record { looked = looked; feasible = fits_beyond k b (laws.ceilings b) v.horizon looked.reach.horizon.common looked.fits })

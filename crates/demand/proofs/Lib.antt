@@ -5,9 +5,9 @@ pub mod Watches
 pub mod Totals
 pub mod Multiples
 pub mod Nearest
-pub mod Loading
 pub mod Beyond
 pub mod Uniqueness
 pub mod Deciding
 pub mod Publishing
 pub mod Steadies
+pub mod Followings

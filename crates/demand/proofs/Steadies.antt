@@ -1,59 +1,16 @@
--- Shares that stay the same for a while, and what is kept of each stream.
+-- Shares that stay the same for a while.
 
-use Rattle.std.proofs.Common.{◌≡◌, ℕ, ◌+◌, ◌-◌, ◌*◌, ◌^◌, ◌<◌, ◌≤◌, ◌≢◌, List, length, get_or, set, replicate, map, sym, refl, ap, ◌∙◌, subst, ⊎_elim, arith}
-use Rattle.std.proofs.lemmas.List.{get_or-set_same, get_or-set_other, get_or_default, get_or-replicate}
-use Rattle.std.proofs.Math.ListN.{get_or-map}
-use Rattle.std.proofs.lemmas.Bool.{cases_lt}
+use Rattle.std.proofs.Common.{◌≡◌, ℕ, ◌+◌, ◌-◌, ◌<◌, ◌≤◌, sym, ◌∙◌, subst, arith}
 use Rattle.stream.specs.Limits.{Within}
 use Rattle.stream.specs.declared.Class.TheVariants.{Critical}
 use Rattle.stream.specs.declared.Row.{Row}
 use Rattle.bank.specs.Ceilings.{Ceiling, back}
-use Rattle.bank.specs.Kinds.{Kind}
-use Rattle.bank.proofs.Backs.{back_before, back_after}
+use Rattle.bank.proofs.Backs.{back_after}
 use Rattle.demand.specs.declared.Plateau.{Plateau}
-use Rattle.demand.specs.declared.Steady.{Steady}
-use Rattle.demand.specs.declared.Watch.{Watch}
-use Rattle.demand.specs.Shares.{normal_share, overrun_share, slack}
-use Rattle.demand.specs.Watching.{Flat, Seen, Watched, WatchedFrom, Holds, Kept, Each, DueFrom, KeptFrom}
-use Rattle.demand.proofs.Plateaus.{plateau_share, share_before_slack}
+use Rattle.demand.specs.Shares.{overrun_share, slack}
+use Rattle.demand.specs.Watching.{Flat, Watched}
+use Rattle.demand.proofs.Plateaus.{plateau_share}
 use Rattle.demand.proofs.Watches.{flat_seen}
-
-back_rises : {r : Row} {k : ℕ} {N : ℕ → ℕ} → Ceiling r k N → (s t v : ℕ) → s ≤ t → back N s v ≤ back N t v
-back_rises {r} {k} {N} law s t v h =
-    ⊎_elim
-    (λ (early : s < v). let z = back_before N s v early in omega arith)
-    (λ (late : v ≤ s). let low = back_after N s v late in let high = back_after N t v (omega arith) in let up = law.rises (s - v) (t - v) (omega arith) in omega arith)
-    (cases_lt s v)
-
--- a ceiling that is the same at two lengths is the same between them
-pub level_lasts : {r : Row} {k : ℕ} {N : ℕ → ℕ} → Ceiling r k N → (t last v level : ℕ) → level ≡ back N t v → level ≡ back N last v → (q : ℕ) → t ≤ q → q < last + 1 → back N q v ≡ level
-level_lasts {r} {k} {N} law t last v level here there q from upto =
-    let low = back_rises law t q v from in
-    let high = back_rises law q last v (omega arith) in
-    omega arith
-
-pub holds_later : {f : ℕ → ℕ} {t : ℕ} {s : Steady} → Holds f t s → Holds f (t + 1) s
-holds_later h = record { is = λ q from. h.is q (omega arith); small = h.small }
-
-pub normal_early : (row : Row) (N : ℕ → ℕ) (t : ℕ) → Holds (normal_share row N) t (record { share = 0; end = row.short })
-unfolding normal_share
-normal_early row N t =
-    let none : 0 * row.budget ≡ 0 = omega arith in
-    record { is = λ q from before. ap (λ (n : ℕ). n * row.budget) (back_before N q row.short before) ∙ none; small = omega arith }
-
-pub normal_lasts : (row : Row) (N : ℕ → ℕ) (t level end : ℕ) → ((q : ℕ) → t ≤ q → q < end → back N q row.short ≡ level) → level * row.budget < 2 ^ 37 → Holds (normal_share row N) (t + 1) (record { share = level * row.budget; end = end })
-unfolding normal_share
-normal_lasts row N t level end same small = record { is = λ q from before. ap (λ (n : ℕ). n * row.budget) (same q (omega arith) before); small = small }
-
--- below its slack a stream is not asked, so nothing changes
-pub early_stays : (row : Row) (N : ℕ → ℕ) (t : ℕ) (p : Plateau) → t < slack row → Watched row N (t + 1) p → (q : ℕ) → t < q → q < slack row → Watched row N (q + 1) p
-early_stays row N t p early w q from before critical =
-    let At : ℕ → Type 0 = λ n. Seen N n p in
-    let same : t + 1 - slack row ≡ q + 1 - slack row = omega arith in
-    subst At same (w critical)
-
-pub early_same : (row : Row) (N : ℕ → ℕ) (t : ℕ) → t < slack row → (q : ℕ) → t < q → q < slack row → overrun_share row N q ≡ overrun_share row N t
-early_same row N t early q from before = share_before_slack row N q before ∙ sym (share_before_slack row N t early)
 
 -- the plateau that is known once a length has been asked for
 pub known_flat : (row : Row) (N : ℕ → ℕ) (t : ℕ) (p : Plateau) → row.class ≡ Critical → slack row ≤ t → Watched row N (t + 1) p → Flat N (t - slack row) p.start p.level
@@ -86,56 +43,3 @@ module _ {k : ℕ} {N : ℕ → ℕ} (row : Row) (law : Ceiling row k N) (w : Wi
       let now = plateau_share row N w critical law.rises t p.start p.level late (known_flat row N t p critical late watched) in
       let then = plateau_share row N w critical law.rises q p.start p.level (omega arith) (longer q from before) in
       omega (arith, now, then)
-
-pub kept_later : (row : Row) (N : ℕ → ℕ) (t : ℕ) (w : Watch) → t < w.steady.end → Kept row N t w → Kept row N (t + 1) w
-kept_later row N t w h kept = record { watched = kept.stays t (omega arith) h; share = holds_later kept.share; stays = λ q from. kept.stays q (omega arith) }
-
--- writing the item of stream i leaves those of the others
-pub each_rest : {X : Type 0} (P : ℕ → Row → X → Type 0) (rows : List Row) (i n : ℕ) (items : List X) (x : X) → Each P rows i n items → Each P rows (i + 1) n (set items i x)
-each_rest {X} P rows i n items x w j d e later h =
-    let other : j ≢ i = omega arith in
-    let At : X → Type 0 = λ q. P (j + 1) (get_or rows j d) q in
-    subst At (sym (get_or-set_other items i j x e other)) (w j d e (omega arith) h)
-
-pub each_front : {X : Type 0} (P : ℕ → Row → X → Type 0) (rows : List Row) (i : ℕ) (items : List X) (x : X) (d : Row) → i < length rows → i < length items → Each P rows 0 i items → P (i + 1) (get_or rows i d) x → Each P rows 0 (i + 1) (set items i x)
-each_front {X} P rows i items x d in_rows in_items w here j f e none h =
-    ⊎_elim
-    (λ (before : j < i).
-    let other : j ≢ i = omega arith in
-    let At : X → Type 0 = λ q. P (j + 1) (get_or rows j f) q in
-    subst At (sym (get_or-set_other items i j x e other)) (w j f e none before))
-    (λ (from : i ≤ j).
-    let is : i ≡ j = omega arith in
-    let Now : ℕ → Type 0 = λ n. P (n + 1) (get_or rows n f) (get_or (set items i x) n e) in
-    let Of : Row → Type 0 = λ r. P (i + 1) r x in
-    let At : X → Type 0 = λ q. P (i + 1) (get_or rows i f) q in
-    subst Now is (subst At (sym (get_or-set_same items i x e in_items)) (subst Of (get_or_default rows i d f in_rows) here)))
-    (cases_lt j i)
-
--- the same item for all
-pub each_same : {X : Type 0} (P : ℕ → Row → X → Type 0) (rows : List Row) (n : ℕ) (x : X) → n ≤ 32 → ((i : ℕ) (row : Row) → P i row x) → Each P rows 0 n (replicate 32 x)
-each_same {X} P rows n x few all i d e from h =
-    let At : X → Type 0 = λ q. P (i + 1) (get_or rows i d) q in
-    subst At (sym (get_or-replicate 32 i x e (omega arith))) (all (i + 1) (get_or rows i d))
-
--- before the first length nothing is known
-pub due_none : {S : Type 0} (k : Kind S) (b : S) (rows : List Row) (n t : ℕ) → n ≤ 32 → DueFrom k b rows 0 n t (replicate 32 (record { share = 0; end = 0 }))
-due_none k b rows n t few =
-    each_same (λ i row s. Holds (normal_share row (k.ceiling b i)) t s) rows n (record { share = 0; end = 0 }) few
-    (λ i row. record { is = λ q from before. let z : ⊥ = omega arith in absurd z; small = omega arith })
-
-pub kept_none : {S : Type 0} (k : Kind S) (b : S) (rows : List Row) (n : ℕ) → n ≤ 32 → KeptFrom k b rows 0 n 0 (replicate 32 (record { plateau = record { start = 0; level = 0 }; steady = record { share = 0; end = 0 } }))
-kept_none k b rows n few =
-    each_same (λ i row w. Kept row (k.ceiling b i) 0 w) rows n (record { plateau = record { start = 0; level = 0 }; steady = record { share = 0; end = 0 } }) few
-    (λ i row. record {
-      watched = λ critical. record { unasked = λ _. refl; asked = λ l. let z : ⊥ = omega arith in absurd z };
-      share = record { is = λ q from before. let z : ⊥ = omega arith in absurd z; small = omega arith };
-      stays = λ q from before. let z : ⊥ = omega arith in absurd z;
-    })
-
--- what is kept of the streams has the plateau of each
-pub kept_watched : {S : Type 0} (k : Kind S) (b : S) (rows : List Row) (from n t : ℕ) (items : List Watch) → KeptFrom k b rows from n t items → WatchedFrom k b rows from n t (map (λ w. w.plateau) items)
-kept_watched k b rows from n t items kept i d e low high =
-    let unknown : Watch = record { plateau = e; steady = record { share = 0; end = 0 } } in
-    let P : Plateau → Type 0 = λ p. Watched (get_or rows i d) (k.ceiling b (i + 1)) t p in
-    subst P (sym (get_or-map (λ (w : Watch). w.plateau) items i unknown)) (kept i d unknown low high).watched

@@ -1,6 +1,6 @@
 -- The plateau that is remembered stays right from length to length.
 
-use Rattle.std.proofs.Common.{◌≡◌, ℕ, ◌+◌, ◌-◌, ◌<◌, ◌≤◌, eqb, sym, ap, ◌∙◌, subst, ⊎_elim, arith, eqb-true}
+use Rattle.std.proofs.Common.{◌≡◌, ℕ, ◌+◌, ◌-◌, ◌≤◌, eqb, sym, ap, ◌∙◌, subst, ⊎_elim, arith, eqb-true}
 use borrow.Author.Tests.{eqb-false}
 use Rattle.std.proofs.lemmas.Bool.{cases_eq, cond_both}
 use Rattle.stream.specs.Limits.{Within}
@@ -10,8 +10,9 @@ use Rattle.bank.specs.Ceilings.{Ceiling, back}
 use Rattle.bank.specs.Kinds.{Kind}
 use Rattle.bank.specs.Laws.{Laws}
 use Rattle.demand.specs.declared.Plateau.{Plateau}
+use Rattle.demand.specs.Listing.{Listed}
 use Rattle.demand.specs.Shares.{slack}
-use Rattle.demand.specs.Watching.{Flat, Seen, Watched, Listed, moved}
+use Rattle.demand.specs.Watching.{Flat, Seen, Watched, moved}
 use Rattle.demand.proofs.Listing.{listed_within, listed_ceiling}
 use Rattle.bank.proofs.Backs.{back_after}
 use Rattle.demand.proofs.Plateaus.{plateau_first, plateau_stays, plateau_rises}
@@ -47,13 +48,6 @@ flat_seen N m next p flat e =
     let At : ℕ → Type 0 = λ n. Flat N n p.start p.level in
     let back : m ≡ next - 1 = omega arith in
     record { unasked = λ z. let w : ⊥ = omega arith in absurd w; asked = λ l. subst At back flat }
-
--- below its slack a stream is not asked
-pub watched_early : (row : Row) (N : ℕ → ℕ) (t : ℕ) (p : Plateau) → t < slack row → Watched row N t p → Watched row N (t + 1) p
-watched_early row N t p early w critical =
-    let At : ℕ → Type 0 = λ n. Seen N n p in
-    let same : t - slack row ≡ t + 1 - slack row = omega arith in
-    subst At same (w critical)
 
 -- a critical stream that is asked at t, past its slack, is then known to lie on the plateau that is handed on
 pub flat_now : {S : Type 0} (k : Kind S) → Laws k → (b : S) (i : ℕ) (row : Row) → Listed k b i row → (t level : ℕ) (seen p : Plateau) → slack row ≤ t → row.class ≡ Critical → Watched row (k.ceiling b i) t seen → level ≡ back (k.ceiling b i) t (slack row) → p ≡ moved seen (t - slack row) level → Flat (k.ceiling b i) (t - slack row) p.start p.level

@@ -5,7 +5,7 @@ use Rattle.stream.specs.declared.Phase.{Phase}
 use Rattle.stream.specs.declared.Phase.TheVariants.{Normal, Overrun}
 use Rattle.stream.specs.declared.limits.Record.{Record}
 use Rattle.bank.specs.Kinds.{Kind}
-use Rattle.demand.specs.Shares.{normal_share, overrun_share}
+use Rattle.demand.specs.Shares.{share_of}
 
 -- f 1 + f 2 + .. + f n
 unfoldable pub total : ℕ → (ℕ → ℕ) → ℕ
@@ -14,8 +14,7 @@ total (suc n) f = total n f + f (n + 1)
 
 abbrev pub share : Option Record → Phase → (ℕ → ℕ) → ℕ → ℕ
 share None p N t = 0
-share (Some r) Normal N t = normal_share r.row N t
-share (Some r) Overrun N t = overrun_share r.row N t
+share (Some r) p N t = share_of p r.row N t
 
 -- what stream i of a bank asks for
 abbrev pub asks : {S : Type 0} → Kind S → S → Phase → ℕ → ℕ → ℕ

@@ -3,6 +3,8 @@ pub mod Demands
 pub mod Horizons
 pub mod Multiples
 pub mod Watching
+pub mod Listing
+pub mod Following
 pub mod Verdicts
 pub mod Loads
 pub mod Published

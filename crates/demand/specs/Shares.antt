@@ -4,6 +4,8 @@ use Rattle.std.specs.Prelude.{ℕ, zero, suc, ◌+◌, ◌-◌, ◌*◌, min, ma
 use Rattle.bank.specs.Ceilings.{back}
 use Rattle.stream.specs.declared.Class.{Class}
 use Rattle.stream.specs.declared.Class.TheVariants.{Critical, Background}
+use Rattle.stream.specs.declared.Phase.{Phase}
+use Rattle.stream.specs.declared.Phase.TheVariants.{Normal, Overrun}
 use Rattle.stream.specs.declared.Row.{Row}
 
 -- In normal mode each job due by its short deadline asks for the normal budget.
@@ -31,3 +33,8 @@ if_critical Background x = 0
 -- The worst n, from the slack to the smaller of t and the deadline; for t below the slack there is none.
 unfoldable pub overrun_share : Row → (ℕ → ℕ) → ℕ → ℕ
 overrun_share r N t = if_critical r.class (greatest (carrying r N t) (slack r) (min t r.deadline + 1 - slack r))
+
+-- what a stream asks for in a phase
+abbrev pub share_of : Phase → Row → (ℕ → ℕ) → ℕ → ℕ
+share_of Normal = normal_share
+share_of Overrun = overrun_share

@@ -111,15 +111,14 @@ pub record Decided {S : Type 0} (k : Kind S) (b : S) (answer : Result Verdict Re
   pub says : Says k b answer
   pub exactly : ExactlyWhen k b answer
 
--- why the test stops at a length
-abbrev pub Stops : {S : Type 0} → Kind S → S → ℕ → ℕ → Refusal → Type 0
-Stops k b h t e = (p : Phase) × ExceedsFirst k b p t × (e ≡ DemandExceeded (record { horizon = h; lengths = t + 1; point = point_at k b p t }))
+-- the demand of a phase fits, and this is its point
+pub record Passes {S : Type 0} (k : Kind S) (b : S) (p : Phase) (t : ℕ) (point : Point) : Type 0 where
+  pub fits : demand k b p t ≤ t
+  pub is : point ≡ point_at k b p t
 
--- both demands fit, and these are the two points
-pub record Passes {S : Type 0} (k : Kind S) (b : S) (t : ℕ) (points : Point × Point) : Type 0 where
-  pub fits : Fits k b t
-  pub normal : points.0 ≡ point_at k b Normal t
-  pub overrun : points.1 ≡ point_at k b Overrun t
+-- why the test stops at a length
+abbrev pub Stops : {S : Type 0} → Kind S → S → ℕ → Phase → ℕ → Refusal → Type 0
+Stops k b h p t e = (t < demand k b p t) × (e ≡ DemandExceeded (record { horizon = h; lengths = t + 1; point = point_at k b p t }))
 
 -- the points that the next one is chosen from
 abbrev pub candidates : Option Point → Point → Point → List Point

@@ -1,14 +1,12 @@
--- What the test carries from length to length: the rows of the bank, the shares that stay the same for a while, and for each critical stream the plateau of its ceiling.
+-- What the test carries from length to length: the shares that stay the same for a while, and for each critical stream the plateau of its ceiling.
 
-use Rattle.std.specs.Prelude.{◌≡◌, ℕ, ◌+◌, ◌-◌, ◌^◌, ◌<◌, ◌≤◌, cond, List, Some, ◌==◌, slice_index_or}
+use Rattle.std.specs.Prelude.{◌≡◌, ℕ, ◌+◌, ◌-◌, ◌^◌, ◌<◌, ◌≤◌, cond, ◌==◌}
 use Rattle.stream.specs.declared.Class.TheVariants.{Critical}
 use Rattle.stream.specs.declared.Row.{Row}
-use Rattle.stream.specs.declared.limits.Record.{Record}
-use Rattle.bank.specs.Kinds.{Kind}
 use Rattle.demand.specs.declared.Plateau.{Plateau}
 use Rattle.demand.specs.declared.Steady.{Steady}
 use Rattle.demand.specs.declared.Watch.{Watch}
-use Rattle.demand.specs.Shares.{normal_share, overrun_share, slack}
+use Rattle.demand.specs.Shares.{overrun_share, slack}
 
 -- m lies on a plateau of N: N has one value, `level`, from `start` to m, and smaller ones before.
 pub record Flat (N : ℕ → ℕ) (m start level : ℕ) : Type 0 where
@@ -30,18 +28,6 @@ Watched r N t p = r.class ≡ Critical → Seen N (t - slack r) p
 abbrev pub moved : Plateau → ℕ → ℕ → Plateau
 moved p m level = cond (level == p.level) p (record { start = m; level = level })
 
--- stream i of the bank has this row
-abbrev pub Listed : {S : Type 0} → Kind S → S → ℕ → Row → Type 0
-Listed k b i row = (r : Record) × (k.records b i ≡ Some r) × (r.row ≡ row)
-
--- the rows are those of the first n streams
-abbrev pub Rows : {S : Type 0} → Kind S → S → ℕ → List Row → Type 0
-Rows k b n rows = (i : ℕ) (d : Row) → i < n → Listed k b (i + 1) (slice_index_or rows i d)
-
--- the plateaus from `from` on, of n streams, after t lengths
-abbrev pub WatchedFrom : {S : Type 0} → Kind S → S → List Row → ℕ → ℕ → ℕ → List Plateau → Type 0
-WatchedFrom k b rows from n t ps = (i : ℕ) (d : Row) (e : Plateau) → from ≤ i → i < n → Watched (slice_index_or rows i d) (k.ceiling b (i + 1)) t (slice_index_or ps i e)
-
 -- The share f is steady from length t on, below an end. No share is wider than 37 bits.
 pub record Holds (f : ℕ → ℕ) (t : ℕ) (s : Steady) : Type 0 where
   pub is : (q : ℕ) → t ≤ q → q < s.end → f q ≡ s.share
@@ -52,14 +38,3 @@ pub record Kept (r : Row) (N : ℕ → ℕ) (t : ℕ) (w : Watch) : Type 0 where
   pub watched : Watched r N t w.plateau
   pub share : Holds (overrun_share r N) t w.steady
   pub stays : (q : ℕ) → t ≤ q → q < w.steady.end → Watched r N (q + 1) w.plateau
-
--- P holds of each stream's number, row and item, for the streams at places `from` to n
-abbrev pub Each : {X : Type 0} → (ℕ → Row → X → Type 0) → List Row → ℕ → ℕ → List X → Type 0
-Each {X} P rows from n items = (i : ℕ) (d : Row) (e : X) → from ≤ i → i < n → P (i + 1) (slice_index_or rows i d) (slice_index_or items i e)
-
--- what is known of the normal and of the overrun shares after t lengths
-abbrev pub DueFrom : {S : Type 0} → Kind S → S → List Row → ℕ → ℕ → ℕ → List Steady → Type 0
-DueFrom k b rows from n t items = Each (λ i row s. Holds (normal_share row (k.ceiling b i)) t s) rows from n items
-
-abbrev pub KeptFrom : {S : Type 0} → Kind S → S → List Row → ℕ → ℕ → ℕ → List Watch → Type 0
-KeptFrom k b rows from n t items = Each (λ i row w. Kept row (k.ceiling b i) t w) rows from n items

@@ -1,12 +1,13 @@
 // The horizon of a bank: the least common multiple of its gaps.
 
-ghost use Rattle.std.specs.Prelude.{◌≡◌, ℕ, ◌*◌, ◌%◌, ◌<◌, ◌≤◌, MatchResult, ◌≢◌, slice_index_or};
+ghost use Rattle.std.specs.Prelude.{◌≡◌, ℕ, ◌*◌, ◌%◌, ◌<◌, ◌≤◌, MatchResult, ◌≢◌};
 ghost use Rattle.stream.specs.declared.Refusal.TheVariants.{HorizonTooFar};
-ghost use Rattle.stream.specs.declared.Row.{Row as Numbers};
-ghost use Rattle.demand.specs.Multiples.{Multiple, LeastMultiple, NextMultiple};
+ghost use Rattle.demand.specs.Horizons.{Common, Horizon};
+ghost use Rattle.demand.specs.Multiples.{NextMultiple};
 
 use crate::FARTHEST;
-use stream::{Refusal, Row};
+use bank::Bank;
+use stream::Refusal;
 
 // The first of h, 2h, 3h .. that the gap divides.
 fn next_multiple(h: u64, gap: u64) -> Result<u64, Refusal>
@@ -23,14 +24,14 @@ fn next_multiple(h: u64, gap: u64) -> Result<u64, Refusal>
     Err(Refusal::HorizonTooFar)
 }
 
-pub(crate) fn common_multiple(rows: &[Row; 32], streams: u64) -> Result<u64, Refusal>
-    requires few { streams ≤ 32 }
-    requires spaced { (i : ℕ) (d : Numbers) → i < streams → 1 ≤ (slice_index_or rows.now i d).gap }
-    ensures { MatchResult result (λ h. LeastMultiple rows.now streams h × (h ≤ 1000000)) (λ e. (e ≡ HorizonTooFar) × ((m : ℕ) → Multiple rows.now streams m → 1000000 < m)) }
+pub(crate) fn common_multiple<B: Bank>(bank: &B) -> Result<u64, Refusal>
+    ensures { MatchResult result (λ h. Horizon B.kind bank.now h × (h ≤ 1000000)) (λ e. (e ≡ HorizonTooFar) × ((m : ℕ) → Common B.kind bank.now m → 1000000 < m)) }
 {
     let mut h = 1;
-    for i in 0..streams {
-        h = next_multiple(h, rows[i as usize].gap)?;
+    for stream in 1..bank.streams() + 1 {
+        if let Some(record) = bank.record_of(stream) {
+            h = next_multiple(h, record.row().gap)?;
+        }
     }
     Ok(h)
 }

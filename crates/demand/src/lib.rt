@@ -2,23 +2,24 @@
 
 #![tactic(auto)]
 
-ghost use Rattle.std.specs.Prelude.{◌≡◌, ◌≤◌, MatchResult};
-ghost use Rattle.stream.specs.declared.Phase.TheVariants.{Normal, Overrun};
-ghost use Rattle.demand.specs.Demands.{demand};
+ghost use Rattle.std.specs.Prelude.{MatchResult};
 ghost use Rattle.demand.specs.Verdicts.{Accepts, Decided, DemandTold, Judged, Refuses};
-ghost use Rattle.demand.specs.Watching.{Rows};
 
 use bank::Bank;
+use demands::{Followed, demand_of};
 use horizon::common_multiple;
 use scan::scan;
-use shares::{normal_demand, overrun_demand};
-use stream::{Class, Phase, Refusal, Row, Verdict};
+use stream::{Phase, Refusal, Verdict};
 
+mod asked;
+mod demands;
 mod horizon;
 mod loads;
+mod memory;
+mod normal;
+mod overrun;
 mod published;
 mod scan;
-mod shares;
 
 pub use loads::load;
 pub use published::sporadic_share;
@@ -43,41 +44,11 @@ struct Steady {
     end: u64,
 }
 
-// Nothing is known yet.
-const UNKNOWN: Steady = Steady { share: 0, end: 0 };
-
 // What is known of a stream in an overrun.
 #[derive(Clone, Copy)]
 struct Watch {
     plateau: Plateau,
     steady: Steady,
-}
-
-const UNWATCHED: Watch = Watch {
-    plateau: Plateau { start: 0, level: 0 },
-    steady: UNKNOWN,
-};
-
-// The rows of all streams, copied once so that the scan asks only for ceilings.
-fn rows_of<B: Bank>(bank: &B, streams: u64) -> [Row; 32]
-    requires few { streams ≤ 32 }
-    requires whole { streams ≡ B.kind.streams bank.now }
-    ensures { Rows B.kind bank.now streams result }
-{
-    let mut rows = [Row {
-        class: Class::Background,
-        budget: 0,
-        certain: 0,
-        short: 0,
-        deadline: 0,
-        gap: 0,
-    }; 32];
-    for i in 0..streams {
-        if let Some(record) = bank.record_of(i + 1) {
-            rows[i as usize] = record.row();
-        }
-    }
-    rows
 }
 
 // Whether a bank may run, whatever comes: refused for no stream, more than 32, a horizon above 1,000,000, or the first length that a demand exceeds. No length above the horizon is looked at, since none is worse.
@@ -99,9 +70,8 @@ fn judge<B: Bank>(bank: &B) -> Result<Verdict, Refusal>
     if streams > MOST_STREAMS {
         return Err(Refusal::TooManyStreams);
     }
-    let rows = rows_of(bank, streams);
-    let horizon = common_multiple(&rows, streams)?;
-    scan(bank, &rows, streams, horizon)
+    let horizon = common_multiple(bank)?;
+    scan(bank, horizon)
 }
 
 // The demand of a phase at a length of at most 1,000,000, for at most 32 streams.
@@ -112,35 +82,17 @@ pub fn demand_at<B: Bank>(bank: &B, phase: Phase, length: u64) -> Option<u64>
     if streams > MOST_STREAMS || length > FARTHEST {
         return None;
     }
-    let rows = rows_of(bank, streams);
-    match phase {
-        Phase::Normal => Some(normal_demand_alone(bank, &rows, streams, length)),
-        Phase::Overrun => Some(overrun_demand_after(bank, &rows, streams, length)),
-    }
-}
-
-// The normal demand, with nothing known of the lengths before.
-fn normal_demand_alone<B: Bank>(bank: &B, rows: &[Row; 32], streams: u64, length: u64) -> u64
-    requires few { streams ≤ 32 }
-    requires whole { streams ≡ B.kind.streams bank.now }
-    requires listed { Rows B.kind bank.now streams rows.now }
-    requires within { length ≤ 1000000 }
-    ensures { result ≡ demand B.kind bank.now Normal length }
-{
-    normal_demand(bank, rows, streams, length, &mut [UNKNOWN; 32])
-}
-
-// The overrun demand, with the plateaus of all lengths before.
-fn overrun_demand_after<B: Bank>(bank: &B, rows: &[Row; 32], streams: u64, length: u64) -> u64
-    requires few { streams ≤ 32 }
-    requires whole { streams ≡ B.kind.streams bank.now }
-    requires listed { Rows B.kind bank.now streams rows.now }
-    requires within { length ≤ 1000000 }
-    ensures { result ≡ demand B.kind bank.now Overrun length }
-{
-    let mut watches = [UNWATCHED; 32];
-    for before in 0..length {
-        overrun_demand(bank, rows, streams, before, &mut watches);
-    }
-    overrun_demand(bank, rows, streams, length, &mut watches)
+    let streams = streams as usize;
+    Some(match phase {
+        Phase::Normal => demand_of(
+            bank,
+            &mut [Followed::<Steady>::default(); 32][..streams],
+            length,
+        ),
+        Phase::Overrun => demand_of(
+            bank,
+            &mut [Followed::<Watch>::default(); 32][..streams],
+            length,
+        ),
+    })
 }

@@ -10,21 +10,22 @@ fn load_of<B: Bank>(bank: &B, stream: u64) -> u64
     ensures value { result ≡ load_of B.kind bank.now stream }
     ensures bound { result ≤ 2 ^ 42 }
 {
-    let Some(record) = bank.record_of(stream) else {
-        return 0;
-    };
     let k = bank.count(stream).unwrap_or(0);
-    let row = record.row();
-    1000 * k * row.budget / row.gap
+    bank.record_of(stream).map_or(0, |record| {
+        let row = record.row();
+        1000 * k * row.budget / row.gap
+    })
 }
 
 // The load of a bank, in thousandths of the worker. Each stream's part is rounded down.
+#[tactic(auto, using(crate::proofs::Totals::total_before, crate::proofs::Totals::total_none))]
 pub fn load<B: Bank>(bank: &B) -> u64
     ensures { result ≡ total_load B.kind bank.now }
 {
     let mut sum = 0;
-    for i in 0..bank.streams() {
-        sum += load_of(bank, i + 1);
+    // these are the numbers that a bank is asked by, no places of a list
+    for stream in 1..bank.streams() + 1 {
+        sum += load_of(bank, stream);
     }
     sum
 }

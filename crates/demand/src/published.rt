@@ -40,6 +40,7 @@ fn closed_share(row: Row, length: u64) -> u64
 }
 
 // The overrun share of a stream whose ceiling is m / gap + 1, at a length of at most 1,000,000.
+#[tactic(auto, using(crate::proofs::Publishing::published_share, crate::proofs::Publishing::by_plateau))]
 pub fn sporadic_share(stream: Record, length: u64) -> Option<u64>
     ensures { ShareTold stream.row length result }
 {

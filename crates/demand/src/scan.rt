@@ -1,74 +1,43 @@
 // The scan over all lengths up to the horizon.
 
-ghost use Rattle.std.specs.Prelude.{◌≡◌, ◌+◌, ◌^◌, ◌<◌, ◌≤◌, pos, ◌-ℤ◌, MatchResult, OnOk};
+ghost use Rattle.std.specs.Prelude.{◌≡◌, ◌+◌, ◌<◌, ◌≤◌, MatchResult};
 ghost use Rattle.least.specs.Firsts.{FirstLeast};
 ghost use Rattle.least.specs.Orders.{by_margin, point_below};
+ghost use Rattle.demand.specs.Following.{Follows, Places};
 ghost use Rattle.demand.specs.Verdicts.{InReach, Accepts, Passes, Refuses, Stops, candidates};
-ghost use Rattle.demand.specs.Watching.{DueFrom, KeptFrom, Rows};
 
-use crate::shares::{normal_demand, overrun_demand};
-use crate::{Steady, UNKNOWN, UNWATCHED, Watch};
+use crate::demands::{Followed, list, next_demand};
+use crate::memory::Memory;
+use crate::{Steady, Watch};
 use bank::Bank;
 use least::least;
-use stream::{Phase, Point, Refusal, Row, Verdict};
+use stream::{Point, Refusal, Verdict};
 
-fn margin_of(phase: Phase, length: u64, demand: u64) -> Point
-    requires length_within { length ≤ 1000000 }
-    requires demand_within { demand ≤ 2 ^ 42 }
-    ensures { result ≡ record { phase = phase; length = length; margin = pos length -ℤ pos demand } }
-{
-    Point {
-        phase,
-        length,
-        margin: length as i64 - demand as i64,
-    }
-}
-
-// Both points of a length, or the refusal if a demand exceeds it, normal first.
-fn look<B: Bank>(
+// The point of a phase at a length, or the refusal if the demand exceeds it.
+fn look<B: Bank, M: Memory>(
     bank: &B,
-    rows: &[Row; 32],
-    streams: u64,
+    streams: &mut [Followed<M>],
     horizon: u64,
     length: u64,
-    known: &mut [Steady; 32],
-    watches: &mut [Watch; 32],
-) -> Result<(Point, Point), Refusal>
-    requires few { streams ≤ 32 }
-    requires whole { streams ≡ B.kind.streams bank.now }
-    requires listed { Rows B.kind bank.now streams rows.now }
+) -> Result<Point, Refusal>
     requires within { length ≤ 1000000 }
-    requires due { DueFrom B.kind bank.now rows.now 0 streams length known.old }
-    requires kept { KeptFrom B.kind bank.now rows.now 0 streams length watches.old }
-    ensures cases { MatchResult result (λ points. Passes B.kind bank.now length points) (λ e. Stops B.kind bank.now horizon length e) }
-    ensures due { OnOk result (DueFrom B.kind bank.now rows.now 0 streams (length + 1) known.new) }
-    ensures kept { OnOk result (KeptFrom B.kind bank.now rows.now 0 streams (length + 1) watches.new) }
+    requires follows { Follows B.kind bank.now M.right length streams.old }
+    ensures cases { MatchResult result (λ point. Passes B.kind bank.now M.PHASE length point) (λ e. Stops B.kind bank.now horizon M.PHASE length e) }
+    ensures follows { Follows B.kind bank.now M.right (length + 1) streams.new }
 {
-    let normal = margin_of(
-        Phase::Normal,
+    let point = Point {
+        phase: M::PHASE,
         length,
-        normal_demand(bank, rows, streams, length, known),
-    );
-    if normal.margin < 0 {
+        margin: length as i64 - next_demand(bank, streams, length) as i64,
+    };
+    if point.margin < 0 {
         return Err(Refusal::DemandExceeded(Verdict {
             horizon,
             lengths: length + 1,
-            point: normal,
+            point,
         }));
     }
-    let overrun = margin_of(
-        Phase::Overrun,
-        length,
-        overrun_demand(bank, rows, streams, length, watches),
-    );
-    if overrun.margin < 0 {
-        return Err(Refusal::DemandExceeded(Verdict {
-            horizon,
-            lengths: length + 1,
-            point: overrun,
-        }));
-    }
-    Ok((normal, overrun))
+    Ok(point)
 }
 
 fn closer(point: Point, other: Point) -> bool
@@ -93,30 +62,23 @@ fn keep_nearest(nearest: &mut Option<Point>, length: u64, normal: Point, overrun
 }
 
 // Looks at every length up to the horizon, in order, until a demand exceeds one.
-pub(crate) fn scan<B: Bank>(
+fn scan_places<B: Bank>(
     bank: &B,
-    rows: &[Row; 32],
-    streams: u64,
+    steadies: &mut [Followed<Steady>],
+    watches: &mut [Followed<Watch>],
     horizon: u64,
 ) -> Result<Verdict, Refusal>
-    requires whole { streams ≡ B.kind.streams bank.now }
-    requires listed { Rows B.kind bank.now streams rows.now }
+    requires steadies { Places B.kind bank.now steadies.old }
+    requires watches { Places B.kind bank.now watches.old }
     requires reach { InReach B.kind bank.now horizon }
     ensures { MatchResult result (λ v. Accepts B.kind bank.now v) (λ e. Refuses B.kind bank.now e) }
 {
-    let mut known = [UNKNOWN; 32];
-    let mut watches = [UNWATCHED; 32];
+    list(bank, steadies);
+    list(bank, watches);
     let mut nearest = None;
     for length in 0..horizon + 1 {
-        let (normal, overrun) = look(
-            bank,
-            rows,
-            streams,
-            horizon,
-            length,
-            &mut known,
-            &mut watches,
-        )?;
+        let normal = look(bank, steadies, horizon, length)?;
+        let overrun = look(bank, watches, horizon, length)?;
         keep_nearest(&mut nearest, length, normal, overrun);
     }
     match nearest {
@@ -127,4 +89,20 @@ pub(crate) fn scan<B: Bank>(
         }),
         None => unreachable(),
     }
+}
+
+// The same, with places for the streams. An `ArrayVec` in place of the arrays misses a bar of speed (docs/SPEED.md).
+pub(crate) fn scan<B: Bank>(bank: &B, horizon: u64) -> Result<Verdict, Refusal>
+    requires { InReach B.kind bank.now horizon }
+    ensures { MatchResult result (λ v. Accepts B.kind bank.now v) (λ e. Refuses B.kind bank.now e) }
+{
+    let streams = bank.streams() as usize;
+    let mut steadies = [Followed::<Steady>::default(); 32];
+    let mut watches = [Followed::<Watch>::default(); 32];
+    scan_places(
+        bank,
+        &mut steadies[..streams],
+        &mut watches[..streams],
+        horizon,
+    )
 }

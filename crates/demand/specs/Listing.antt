@@ -1,0 +1,14 @@
+-- The row of a stream of a bank.
+
+use Rattle.std.specs.Prelude.{◌≡◌, ℕ, Some, None, Option}
+use Rattle.stream.specs.declared.Row.{Row}
+use Rattle.stream.specs.declared.limits.Record.{Record}
+use Rattle.bank.specs.Kinds.{Kind}
+
+abbrev pub row_of : Option Record → Option Row
+row_of None = None
+row_of (Some r) = Some r.row
+
+-- stream i of the bank has this row
+abbrev pub Listed : {S : Type 0} → Kind S → S → ℕ → Row → Type 0
+Listed k b i row = row_of (k.records b i) ≡ Some row
