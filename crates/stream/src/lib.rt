@@ -19,7 +19,7 @@ pub enum Class {
 }
 
 // The numbers of a stream as a plan gives them, not yet held to any limit. Budgets are in turns, the others in ticks.
-#[derive(Clone, Copy)]
+#[derive(Clone, Copy, PartialEq, Eq, Debug)]
 pub struct Row {
     pub class: Class,
     // the turns a job has in normal mode

@@ -2,7 +2,7 @@
 
 use stream::Row;
 
-#[derive(Clone, Copy)]
+#[derive(Clone, Copy, PartialEq, Eq, Debug)]
 pub enum Line {
     // a stream whose releases keep a least distance
     Sporadic(Row),
