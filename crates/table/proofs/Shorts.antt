@@ -1,7 +1,7 @@
 -- What holds of a table that does not fall short.
 
 use Rattle.std.proofs.Common.{◌≡◌, ℕ, ◌+◌, ◌<◌, ◌≤◌, Bool, false, cond, List, length, get_or, Some, None, sym, ap, ◌∙◌, ⊎_elim, arith}
-use Rattle.std.proofs.lemmas.Bool.{cases_lt, cond-false, cond-true, le-leb, lt-leb, lt-ltb, ltb-false}
+use Rattle.std.proofs.lemmas.Bool.{cases_lt, cond-true, le-leb, lt-ltb, ltb-false}
 use Rattle.std.proofs.lemmas.List.Sums.{fails_before_first}
 use Rattle.std.proofs.lemmas.Option.{get_or_from_slice_get, slice_get_within}
 use Rattle.std.specs.List.{position_or_len, slice_get}
@@ -9,7 +9,7 @@ use Rattle.std.specs.Option.{option_map}
 use Rattle.stream.specs.declared.limits.Record.{Record}
 use Rattle.table.specs.Shortening.{shortened, too_short, first_short, shortfall_of, AllShortened}
 use Rattle.table.specs.declared.shared.State.{State}
-use Rattle.table.specs.declared.shortening.Shortfall.TheVariants.{Factor, Stream}
+use Rattle.table.specs.declared.shortening.Shortfall.TheVariants.{Stream}
 use Rattle.table.proofs.Partly.{Partly, partly_all}
 use Rattle.table.specs.TablesLemmas.{none_not_some}
 
@@ -34,17 +34,6 @@ module _ {S : Type 0} (recorded : S → Record) where
   pub factor_fits : (factor : ℕ) (xs : List (State S)) → 1 ≤ factor → factor ≤ 1000 → shortfall_of recorded factor xs ≡ first_short recorded factor xs
   factor_fits factor xs least most =
       cond-true _ _ _ (le-leb 1 factor least) ∙ cond-true _ _ _ (le-leb factor 1000 most)
-
-  pub no_shortfall : (factor : ℕ) (xs : List (State S)) → shortfall_of recorded factor xs ≡ None → (factor ≤ 1000) × (first_short recorded factor xs ≡ None)
-  no_shortfall factor xs none =
-      ⊎_elim
-      (λ (least : factor < 1). absurd (none_not_some Factor (sym none ∙ cond-false _ _ _ (lt-leb 1 factor least))))
-      (λ (least : 1 ≤ factor).
-      ⊎_elim
-      (λ (most : 1000 < factor). absurd (none_not_some Factor (sym none ∙ cond-true _ _ _ (le-leb 1 factor least) ∙ cond-false _ _ _ (lt-leb factor 1000 most))))
-      (λ (most : factor ≤ 1000). (most, sym (factor_fits factor xs least most) ∙ none))
-      (cases_lt 1000 factor))
-      (cases_lt factor 1)
 
 -- one state is shortened
 abbrev pub Shortens : {S : Type 0} → (S → Record) → (S → S → Type 0) → ℕ → State S → State S → Type 0

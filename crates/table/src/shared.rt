@@ -6,11 +6,11 @@ ghost use Rattle.bank.specs.Questions.{asked, counted, told};
 ghost use Rattle.std.specs.Option.{option_map};
 ghost use Rattle.std.specs.List.{slice_get};
 ghost use Rattle.std.specs.Result.{result_err};
-ghost use Rattle.table.specs.Shortening.{AllShortened, shortfall_of, too_short};
+ghost use Rattle.table.specs.Shortening.{AllShortened, first_short, too_short};
 ghost use Rattle.table.specs.Tabled.{still};
 ghost use Rattle.table.specs.Tables.{Rewaited, SameSize, ceiling_of, fresh, opening_of, record_of, state_of, states_of, ticked, waiting};
 
-use crate::shortening::{Shortfall, falls_short, shorten_record};
+use crate::shortening::{Shortfall, Thousandths};
 use crate::timed::Timed;
 use bank::{Question, ask};
 use std::alloc::{AllocError, Global};
@@ -142,38 +142,32 @@ impl<S: Timed> Table<S> {
     }
 
     // The place of the first stream whose short deadline would be below its budget.
-    fn first_short(&self, factor: u64) -> Option<usize>
-        requires { factor ≤ 1000 }
-        ensures place { result ≡ position (λ s. too_short factor (S.recorded s.stream).row) (states_of self.now) }
+    fn first_short(&self, factor: Thousandths) -> Option<usize>
+        ensures place { result ≡ position (λ s. too_short factor.count (S.recorded s.stream).row) (states_of self.now) }
         ensures bound { IfSome result (λ at. at < length (states_of self.now)) }
     {
-        self.states.iter().position(
-            |state| -> bool
-                requires { factor ≤ 1000 }
-            { falls_short(state.stream.record(), factor) },
-        )
+        self.states
+            .iter()
+            .position(|state| factor.is_too_short(state.stream.record()))
     }
 
     // Why the streams cannot be shortened by the factor, if they cannot.
-    pub(crate) fn falls_short(&self, factor: u64) -> Result<(), Shortfall>
-        ensures { result_err result ≡ shortfall_of S.recorded factor (states_of self.now) }
+    pub(crate) fn falls_short(&self, factor: Thousandths) -> Result<(), Shortfall>
+        ensures { result_err result ≡ first_short S.recorded factor.count (states_of self.now) }
     {
-        if factor < 1 || factor > 1000 {
-            return Err(Shortfall::Factor);
-        }
         match self.first_short(factor) {
             Some(at) => Err(Shortfall::Stream(at as u64 + 1)),
             None => Ok(()),
         }
     }
 
-    pub(crate) fn shorten_all(&mut self, factor: u64)
-        requires { shortfall_of S.recorded factor (states_of self.old) ≡ None }
-        ensures states { AllShortened S.recorded S.alike factor (states_of self.old) (states_of self.new) }
+    pub(crate) fn shorten_all(&mut self, factor: Thousandths)
+        requires { first_short S.recorded factor.count (states_of self.old) ≡ None }
+        ensures states { AllShortened S.recorded S.alike factor.count (states_of self.old) (states_of self.new) }
         ensures size { SameSize self.old self.new }
     {
         for state in self.states.iter_mut() {
-            let record = shorten_record(state.stream.record(), factor);
+            let record = factor.shorten_record(state.stream.record());
             state.stream = state.stream.with_record(record);
         }
     }

@@ -1,7 +1,8 @@
 // Shorter short deadlines for critical streams: an overrun then finds more slack.
 
-ghost use Rattle.std.specs.Prelude.{◌≡◌, ◌≤◌};
+ghost use Rattle.std.specs.Prelude.{◌≡◌, ◌≤◌, MatchResult};
 ghost use Rattle.table.specs.Shortening.{refusal_of, shortened, too_short};
+ghost use Rattle.table.specs.declared.shortening.Shortfall.TheVariants.{Factor};
 
 use stream::{Class, Record, Refusal, Row};
 
@@ -23,34 +24,50 @@ impl From<Shortfall> for Refusal {
     }
 }
 
-// The factor is in thousandths of the deadline.
-pub(crate) fn shorten_row(row: Row, factor: u64) -> Row
-    requires { (row.deadline ≤ 65535) × (factor ≤ 1000) }
-    ensures { result ≡ shortened factor row }
-{
-    match row.class {
-        Class::Critical => Row {
-            short: row.deadline * factor / 1000,
-            ..row
-        },
-        Class::Background => row,
+// So many thousandths of a deadline, all of it at most.
+#[derive(Clone, Copy)]
+pub(crate) struct Thousandths {
+    pub(crate) count: u64,
+    ghost some: { 1 ≤ count },
+    ghost few: { count ≤ 1000 },
+}
+
+impl Thousandths {
+    pub(crate) fn new(factor: u64) -> Result<Thousandths, Shortfall>
+        ensures { MatchResult result (λ t. t.count ≡ factor) (λ why. (why ≡ Factor) × (1 ≤ factor → factor ≤ 1000 → ⊥)) }
+    {
+        if factor < 1 || factor > 1000 {
+            return Err(Shortfall::Factor);
+        }
+        Ok(Thousandths { count: factor })
     }
-}
 
-// Whether the short deadline would be below the budget.
-pub(crate) fn falls_short(stream: Record, factor: u64) -> bool
-    requires { factor ≤ 1000 }
-    ensures { result ≡ too_short factor stream.row }
-{
-    let row = stream.row();
-    shorten_row(row, factor).short < row.budget
-}
+    pub(crate) fn shorten_row(self, row: Row) -> Row
+        requires { row.deadline ≤ 65535 }
+        ensures { result ≡ shortened self.count row }
+    {
+        match row.class {
+            Class::Critical => Row {
+                short: row.deadline * self.count / 1000,
+                ..row
+            },
+            Class::Background => row,
+        }
+    }
 
-// A record whose short deadline would be below its budget stays as it is.
-pub(crate) fn shorten_record(stream: Record, factor: u64) -> Record
-    requires { factor ≤ 1000 }
-    ensures gap { result.row.gap ≡ stream.row.gap }
-    ensures row { stream.row.budget ≤ (shortened factor stream.row).short → result.row ≡ shortened factor stream.row }
-{
-    Record::new(shorten_row(stream.row(), factor)).unwrap_or(stream)
+    // Whether the short deadline would be below the budget.
+    pub(crate) fn is_too_short(self, stream: Record) -> bool
+        ensures { result ≡ too_short self.count stream.row }
+    {
+        let row = stream.row();
+        self.shorten_row(row).short < row.budget
+    }
+
+    // A record whose short deadline would be below its budget stays as it is.
+    pub(crate) fn shorten_record(self, stream: Record) -> Record
+        ensures gap { result.row.gap ≡ stream.row.gap }
+        ensures row { stream.row.budget ≤ (shortened self.count stream.row).short → result.row ≡ shortened self.count stream.row }
+    {
+        Record::new(self.shorten_row(stream.row())).unwrap_or(stream)
+    }
 }

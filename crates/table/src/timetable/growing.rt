@@ -8,7 +8,7 @@ ghost use Rattle.table.specs.Shortening.{Shortening};
 
 use crate::phasing::OnRaster;
 use crate::shared::{MOST, Table};
-use crate::shortening::Shortfall;
+use crate::shortening::{Shortfall, Thousandths};
 use crate::timed::Timed;
 use crate::timetable::Timetable;
 use std::alloc::{AllocError, Global};
@@ -36,6 +36,7 @@ impl<S: Timed> Timetable<S> {
     pub fn shorten(&mut self, factor: u64) -> Result<(), Shortfall>
         ensures { Shortening S.recorded S.alike factor self.old result self.new }
     {
+        let factor = Thousandths::new(factor)?;
         self.table.falls_short(factor)?;
         self.table.shorten_all(factor);
         Ok(())
