@@ -6,15 +6,11 @@ use Rattle.stream.specs.declared.Layer.{Layer}
 use Rattle.stream.specs.declared.Layer.TheVariants.{Demand, Engine}
 use Rattle.stream.specs.declared.Refusal.{Refusal}
 use Rattle.stream.specs.declared.Verdict.{Verdict}
-use Rattle.join.specs.Joins.{joined}
-use Rattle.join.specs.declared.Joined.{Joined}
-use Rattle.table.specs.Rasters.{raster, Raster}
-use Rattle.table.specs.Sporadics.{sporadic, Sporadic}
 use Rattle.text.specs.Places.{out_of_shape}
 use Rattle.turns.specs.Law.{NoneLate}
 use Rattle.turns.specs.Steps.{Started, last_moment}
 use Rattle.turns.specs.declared.State.{State}
-use Rattle.plan.specs.Plans.{Planned, Rows, rows_in, tables_of}
+use Rattle.plan.specs.Plans.{PlanBank, Planned, Rows, plan_kind, rows_in, tables_of}
 use Rattle.plan.specs.declared.reading.Start.{Start}
 
 -- too late a moment is refused by the engine, else the bank is judged by its demand
@@ -25,13 +21,13 @@ start_layer moment = cond (nat_lt last_moment moment) Engine Demand
 pub data Unopened (text : List ℕ) (line : ℕ) (rows : Rows) : Fault → Type 0 where
   unread : {fault : Fault} {rest : List ℕ} {end : ℕ} {read : Rows} → Planned text line rows (Err fault) rest end read → Unopened text line rows fault
   endless : {rest : List ℕ} {end : ℕ} {read : Rows} → Planned text line rows (Ok None) rest end read → Unopened text line rows (out_of_shape end 1)
-  shut : {start : Start} {rest : List ℕ} {end : ℕ} (bank b : Joined Sporadic Raster) (s : State) (e : Refusal) → Planned text line rows (Ok (Some start)) rest end (rows_in (tables_of bank)) → Started (joined sporadic raster) bank start.moment b s → s.verdict ≡ Err e → Unopened text line rows (record { refusal = e; layer = start_layer start.moment; line = start.line; byte = 0 })
+  shut : {start : Start} {rest : List ℕ} {end : ℕ} (bank b : PlanBank) (s : State) (e : Refusal) → Planned text line rows (Ok (Some start)) rest end (rows_in (tables_of bank)) → Started plan_kind bank start.moment b s → s.verdict ≡ Err e → Unopened text line rows (record { refusal = e; layer = start_layer start.moment; line = start.line; byte = 0 })
 
 -- The plan is read up to its go line, and the join of its tables is started there and accepted: the verdict, the bank and the worker, of which no run is late, and what is left of the text.
-pub record Opened (text : List ℕ) (line : ℕ) (rows : Rows) (verdict : Verdict) (b : Joined Sporadic Raster) (s : State) (rest : List ℕ) (end : ℕ) : Type 0 where
+pub record Opened (text : List ℕ) (line : ℕ) (rows : Rows) (verdict : Verdict) (b : PlanBank) (s : State) (rest : List ℕ) (end : ℕ) : Type 0 where
   pub start : Start
-  pub bank : Joined Sporadic Raster
+  pub bank : PlanBank
   pub plan : Planned text line rows (Ok (Some start)) rest end (rows_in (tables_of bank))
-  pub begun : Started (joined sporadic raster) bank start.moment b s
+  pub begun : Started plan_kind bank start.moment b s
   pub judged : s.verdict ≡ Ok verdict
-  pub promise : NoneLate (joined sporadic raster) b s
+  pub promise : NoneLate plan_kind b s

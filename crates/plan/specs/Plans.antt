@@ -8,9 +8,11 @@ use Rattle.stream.specs.declared.Refusal.{Refusal}
 use Rattle.stream.specs.declared.Refusal.TheVariants.{TooManyStreams, SporadicAfterRaster, PhaseOutOfLimits}
 use Rattle.stream.specs.declared.Row.{Row}
 use Rattle.stream.specs.declared.limits.Record.{Record}
+use Rattle.bank.specs.Kinds.{Kind}
+use Rattle.join.specs.Joins.{joined}
 use Rattle.join.specs.declared.Joined.{Joined}
-use Rattle.table.specs.Rasters.{raster_states, phases_in, Raster as Raster'}
-use Rattle.table.specs.Sporadics.{states_in, Sporadic as Sporadic'}
+use Rattle.table.specs.Rasters.{raster, raster_states, phases_in, Raster as Raster'}
+use Rattle.table.specs.Sporadics.{sporadic, states_in, Sporadic as Sporadic'}
 use Rattle.table.specs.Tables.{fresh, RecordState as State}
 use Rattle.text.specs.Lines.{render, Valid, LineForm}
 use Rattle.text.specs.Places.{out_of_shape}
@@ -33,8 +35,14 @@ pub record Rows : Type 0 where
 abbrev pub rows_in : Tables → Rows
 rows_in t = record { spaced = states_in t.sporadic; aligned = raster_states t.raster; phases = phases_in t.raster }
 
--- the tables that a bank joins
-abbrev pub tables_of : Joined Sporadic' Raster' → Tables
+-- the bank of a plan joins its tables
+abbrev pub PlanBank : Type 0
+PlanBank = Joined Sporadic' Raster'
+
+abbrev pub plan_kind : Kind PlanBank
+plan_kind = joined sporadic raster
+
+abbrev pub tables_of : PlanBank → Tables
 tables_of bank = record { sporadic = bank.left; raster = bank.right }
 
 abbrev pub no_rows : Rows

@@ -10,4 +10,4 @@ mod tables;
 pub use answers::Answers;
 pub use opening::{Opening, open_plan};
 pub use reading::{Start, read_plan};
-pub use tables::Tables;
+pub use tables::{PlanBank, Tables};

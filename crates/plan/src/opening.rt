@@ -6,12 +6,10 @@ ghost use Rattle.text.specs.Reader.{bytes_left, line_number};
 ghost use Rattle.plan.specs.Openings.{Opened, Unopened, start_layer};
 ghost use Rattle.plan.specs.Plans.{rows_in};
 
-use crate::Tables;
 use crate::reading::read_plan;
+use crate::{PlanBank, Tables};
 use engine::Engine;
-use join::Joined;
 use stream::{Fault, Layer, Refusal, Verdict, at_line};
-use table::{Raster, Sporadic};
 use text::Reader;
 use turns::LAST_MOMENT;
 
@@ -19,7 +17,7 @@ use turns::LAST_MOMENT;
 #[derive(Drop)]
 pub struct Opening {
     pub verdict: Verdict,
-    pub engine: Engine<Joined<Sporadic, Raster>>,
+    pub engine: Engine<PlanBank>,
 }
 
 // The text ends where a go line is due.

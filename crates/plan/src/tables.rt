@@ -11,6 +11,9 @@ use table::{Raster, Sporadic};
 
 const MOST_STREAMS: u64 = 32;
 
+// A plan is judged as one bank.
+pub type PlanBank = Joined<Sporadic, Raster>;
+
 // The streams of a plan as far as it is read: the sporadic ones, then those on a raster.
 #[derive(Drop)]
 pub struct Tables {
@@ -27,8 +30,7 @@ impl Tables {
         Ok(Tables { sporadic, raster })
     }
 
-    // A plan is judged as one bank.
-    pub fn into_bank(self) -> Joined<Sporadic, Raster>
+    pub fn into_bank(self) -> PlanBank
         ensures { tables_of result ≡ self }
     {
         let Tables { sporadic, raster } = self;

@@ -5,10 +5,6 @@ use Rattle.std.proofs.lemmas.List.{nil_from_length}
 use Rattle.stream.specs.declared.Fault.{Fault}
 use Rattle.stream.specs.declared.Verdict.{Verdict}
 use Rattle.bank.specs.Kinds.{Kind}
-use Rattle.join.specs.Joins.{joined}
-use Rattle.join.specs.declared.Joined.{Joined}
-use Rattle.table.specs.Rasters.{raster, Raster}
-use Rattle.table.specs.Sporadics.{sporadic, Sporadic}
 use Rattle.engine.specs.Reports.{counts_of}
 use Rattle.turns.specs.declared.Counts.{Counts}
 use Rattle.turns.specs.declared.State.{State}
@@ -22,7 +18,7 @@ use Rattle.script.specs.Performing.{Performed}
 use Rattle.plan.proofs.Planning.{misshapen_by}
 use Rattle.plan.proofs.Writing.{one_line, line_first}
 use Rattle.plan.specs.Openings.{Opened, Unopened}
-use Rattle.plan.specs.Plans.{no_rows}
+use Rattle.plan.specs.Plans.{PlanBank, no_rows, plan_kind}
 use Rattle.plan.specs.Written.{line_of}
 use Rattle.script.specs.Playing.{finished, broken, called, Wrote}
 use Rattle.script.specs.Replays.{Replayed, refused, accepted}
@@ -53,9 +49,9 @@ module _ {S : Type 0} (k : Kind S) (reader later : Reader) (b : S) (s : State) (
 pub play_refused : (text : List ℕ) (fault : Fault) (after : List ℕ) → Unopened text 1 no_rows fault → after ≡ line_of (Refused fault) → Replayed text after
 play_refused text fault after off told = (Refused fault ∷ [], refused off, one_line (Refused fault) [] after told)
 
-pub play_accepted : (text : List ℕ) (verdict : Verdict) (b : Joined Sporadic Raster) (s : State) (rest : List ℕ) (end : ℕ) (mid after : List ℕ) → Opened text 1 no_rows verdict b s rest end → mid ≡ line_of (Accepted verdict) → Wrote (joined sporadic raster) rest end b s mid after → Replayed text after
+pub play_accepted : (text : List ℕ) (verdict : Verdict) (b : PlanBank) (s : State) (rest : List ℕ) (end : ℕ) (mid after : List ℕ) → Opened text 1 no_rows verdict b s rest end → mid ≡ line_of (Accepted verdict) → Wrote plan_kind rest end b s mid after → Replayed text after
 play_accepted text verdict b s rest end mid after opened told wrote = (
   Accepted verdict ∷ wrote.0,
-  accepted opened wrote.1 (accounted (joined sporadic raster) opened.promise wrote.1),
+  accepted opened wrote.1 (accounted plan_kind opened.promise wrote.1),
   line_first (Accepted verdict) wrote.0 [] mid after told wrote.2,
 )

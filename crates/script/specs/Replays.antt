@@ -3,15 +3,11 @@
 use Rattle.std.specs.Prelude.{◌≡◌, ℕ, List, [], ◌∷◌}
 use Rattle.stream.specs.declared.Fault.{Fault}
 use Rattle.stream.specs.declared.Verdict.{Verdict}
-use Rattle.join.specs.Joins.{joined}
-use Rattle.join.specs.declared.Joined.{Joined}
-use Rattle.table.specs.Rasters.{raster, Raster}
-use Rattle.table.specs.Sporadics.{sporadic, Sporadic}
 use Rattle.text.specs.declared.answer.Answer.{Answer}
 use Rattle.text.specs.declared.answer.Answer.TheVariants.{Accepted, Refused}
 use Rattle.turns.specs.declared.State.{State}
 use Rattle.plan.specs.Openings.{Opened, Unopened}
-use Rattle.plan.specs.Plans.{no_rows}
+use Rattle.plan.specs.Plans.{PlanBank, no_rows, plan_kind}
 use Rattle.plan.specs.Written.{lines_of}
 use Rattle.script.specs.Accounts.{Accounted}
 use Rattle.script.specs.Playing.{Played}
@@ -19,7 +15,7 @@ use Rattle.script.specs.Playing.{Played}
 -- A plan that is refused is answered by its fault. One that is accepted is followed by the answers to the script, and its account is lawful.
 pub data Answered (text : List ℕ) : List Answer → Type 0 where
   refused : {fault : Fault} → Unopened text 1 no_rows fault → Answered text (Refused fault ∷ [])
-  accepted : {verdict : Verdict} {b : Joined Sporadic Raster} {s : State} {rest : List ℕ} {end : ℕ} {answers : List Answer} → Opened text 1 no_rows verdict b s rest end → Played (joined sporadic raster) rest end b s answers → Accounted (joined sporadic raster) b s rest answers → Answered text (Accepted verdict ∷ answers)
+  accepted : {verdict : Verdict} {b : PlanBank} {s : State} {rest : List ℕ} {end : ℕ} {answers : List Answer} → Opened text 1 no_rows verdict b s rest end → Played plan_kind rest end b s answers → Accounted plan_kind b s rest answers → Answered text (Accepted verdict ∷ answers)
 
 abbrev pub Replayed : List ℕ → List ℕ → Type 0
 Replayed text written = (answers : List Answer) × Answered text answers × (written ≡ lines_of answers)

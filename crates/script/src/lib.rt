@@ -15,7 +15,7 @@ use plan::{Answers, Tables};
 use std::alloc::{AllocError, Global};
 use verdicts::{check_plan, number_of};
 
-// What check answers for want of memory. It is a number, and check's answer signed, since the C interface has one number for every answer.
+// What check answers for want of memory: a number below every refusal's, and so check's answer is signed, since the C interface has one number for all.
 const NO_MEMORY: i64 = -1;
 
 // Reads a plan, judges it and runs the script after it, one answer to a line.

@@ -7,10 +7,6 @@ use Rattle.stream.specs.declared.Fault.{Fault}
 use Rattle.stream.specs.declared.Layer.TheVariants.{Demand, Engine}
 use Rattle.stream.specs.declared.Refusal.{Refusal}
 use Rattle.stream.specs.declared.Verdict.{Verdict}
-use Rattle.join.specs.Joins.{joined}
-use Rattle.join.specs.declared.Joined.{Joined}
-use Rattle.table.specs.Rasters.{raster, Raster}
-use Rattle.table.specs.Sporadics.{sporadic, Sporadic}
 use Rattle.table.proofs.Views.{raster_begun, sporadic_begun}
 use Rattle.demand.specs.Verdicts.{Judged, Says}
 use Rattle.engine.specs.Reports.{counts_of}
@@ -20,17 +16,17 @@ use Rattle.text.specs.declared.answer.Answer.TheVariants.{Accepted, Refused, Tot
 use Rattle.turns.specs.Steps.{Started, last_moment}
 use Rattle.turns.specs.declared.State.{State}
 use Rattle.plan.specs.Openings.{Unopened, start_layer, shut, unread as unread', endless as endless', Opened as Opened'}
-use Rattle.plan.specs.Plans.{Planned, Rows, no_rows, rows_in, tables_of}
+use Rattle.plan.specs.Plans.{PlanBank, Planned, Rows, no_rows, plan_kind, rows_in, tables_of}
 use Rattle.plan.specs.declared.reading.Start.{Start}
 use Rattle.server.specs.Plans.{Opened, unread, endless, late, tested}
 use Rattle.server.specs.Replays.{Answered, ended, followed, no_jobs}
 
-judged : (b : Joined Sporadic Raster) (answer : Result Verdict Refusal) → Says (joined sporadic raster) b answer → Judged (joined sporadic raster) b answer
+judged : (b : PlanBank) (answer : Result Verdict Refusal) → Says plan_kind b answer → Judged plan_kind b answer
 judged b (Ok v) says = says.looked
 judged b (Err e) says = says
 
 module _ (text : List ℕ) (line : ℕ) (rows : Rows) where
-  started : (start : Start) (bank b : Joined Sporadic Raster) (s : State) (rest : List ℕ) (end : ℕ) → Planned text line rows (Ok (Some start)) rest end (rows_in (tables_of bank)) → Started (joined sporadic raster) bank start.moment b s → Opened text line rows (placed s.verdict (start_layer start.moment) start.line) rest end
+  started : (start : Start) (bank b : PlanBank) (s : State) (rest : List ℕ) (end : ℕ) → Planned text line rows (Ok (Some start)) rest end (rows_in (tables_of bank)) → Started plan_kind bank start.moment b s → Opened text line rows (placed s.verdict (start_layer start.moment) start.line) rest end
   started start bank b s rest end planned begun =
       ⊎_elim
       (λ (h : last_moment < start.moment).
@@ -46,11 +42,11 @@ module _ (text : List ℕ) (line : ℕ) (rows : Rows) where
   refused fault (endless' {rest = rest} {end = end} planned) = (rest, end, endless planned)
   refused fault (shut {start = start} {rest = rest} {end = end} bank b s e planned begun is) = (rest, end, rw is at (started start bank b s rest end planned begun))
 
-  pub accepted : (verdict : Verdict) (b : Joined Sporadic Raster) (s : State) (rest : List ℕ) (end : ℕ) → Opened' text line rows verdict b s rest end → Opened text line rows (Ok verdict) rest end
+  pub accepted : (verdict : Verdict) (b : PlanBank) (s : State) (rest : List ℕ) (end : ℕ) → Opened' text line rows verdict b s rest end → Opened text line rows (Ok verdict) rest end
   accepted verdict b s rest end o = rw o.judged at (started o.start o.bank b s rest end o.plan o.begun)
 
 -- no job has been let in
-pub none_yet : {bank b : Joined Sporadic Raster} {s : State} {moment : ℕ} → Started (joined sporadic raster) bank moment b s → counts_of s ≡ no_jobs
+pub none_yet : {bank b : PlanBank} {s : State} {moment : ℕ} → Started plan_kind bank moment b s → counts_of s ≡ no_jobs
 none_yet {moment = moment} begun =
     ⊎_elim
     (λ (h : last_moment < moment). ap counts_of (begun.late h).1)

@@ -30,11 +30,6 @@ module _ {S : Type 0} (recorded : S → Record) where
       ltb-false _ _ (sym (ap short (get_or_from_slice_get xs k s s is)) ∙ here))
       (cases_lt (position_or_len short xs) (length xs))
 
-  -- a factor within its limits leaves the answer to the streams
-  pub factor_fits : (factor : ℕ) (xs : List (State S)) → 1 ≤ factor → factor ≤ 1000 → shortfall_of recorded factor xs ≡ first_short recorded factor xs
-  factor_fits factor xs least most =
-      cond-true _ _ _ (le-leb 1 factor least) ∙ cond-true _ _ _ (le-leb factor 1000 most)
-
 -- one state is shortened
 abbrev pub Shortens : {S : Type 0} → (S → Record) → (S → S → Type 0) → ℕ → State S → State S → Type 0
 Shortens recorded alike factor s t = ((recorded t.stream).row ≡ shortened factor (recorded s.stream).row) × (t.wait ≡ s.wait) × alike s.stream t.stream
