@@ -1,13 +1,13 @@
 -- What holds of a table that does not fall short.
 
 use Rattle.std.proofs.Common.{◌≡◌, ℕ, ◌+◌, ◌<◌, ◌≤◌, Bool, false, cond, List, length, get_or, Some, None, sym, ap, ◌∙◌, ⊎_elim, arith}
-use Rattle.std.proofs.lemmas.Bool.{cases_lt, cond-true, le-leb, lt-ltb, ltb-false}
+use Rattle.std.proofs.lemmas.Bool.{cases_lt, lt-ltb, ltb-false}
 use Rattle.std.proofs.lemmas.List.Sums.{fails_before_first}
 use Rattle.std.proofs.lemmas.Option.{get_or_from_slice_get, slice_get_within}
 use Rattle.std.specs.List.{position_or_len, slice_get}
 use Rattle.std.specs.Option.{option_map}
 use Rattle.stream.specs.declared.limits.Record.{Record}
-use Rattle.table.specs.Shortening.{shortened, too_short, first_short, shortfall_of, AllShortened}
+use Rattle.table.specs.Shortening.{shortened, too_short, first_short, AllShortened}
 use Rattle.table.specs.declared.shared.State.{State}
 use Rattle.table.specs.declared.shortening.Shortfall.TheVariants.{Stream}
 use Rattle.table.proofs.Partly.{Partly, partly_all}
