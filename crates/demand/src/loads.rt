@@ -23,7 +23,7 @@ pub fn load<B: Bank>(bank: &B) -> u64
     ensures { result ≡ total_load B.kind bank.now }
 {
     let mut sum = 0;
-    // these are the numbers that a bank is asked by, no places of a list
+    // the numbers that a bank is asked by, no places of a list
     for stream in 1..bank.streams() + 1 {
         sum += load_of(bank, stream);
     }

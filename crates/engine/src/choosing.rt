@@ -33,6 +33,7 @@ pub(crate) fn next_turn(state: &State) -> Turn
     ensures { Next state.now result }
 {
     let mut keys = ArrayVec::<(u64, u64), 32>::new();
+    // the numbers that jobs are asked by, no places of a list
     for stream in 1..PLACES + 1 {
         if let Some(job) = state.jobs.of(stream) {
             keys.push(key_of(state.mode, stream, job));

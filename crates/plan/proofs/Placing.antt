@@ -1,6 +1,7 @@
 -- Refusals on their way: handed on by `?`, and given a place.
 
-use Rattle.std.proofs.Common.{◌≡◌, ℕ, Ok, Err, Result, ap, IsErrAnd}
+use Rattle.std.proofs.Common.{◌≡◌, ℕ, Some, None, Ok, Err, Option, Result, refl, ap, IsErrAnd}
+use Rattle.std.specs.Option.{ok_or}
 use Rattle.stream.specs.Faults.{placed}
 use Rattle.stream.specs.declared.Fault.{Fault}
 use Rattle.stream.specs.declared.Layer.{Layer}
@@ -20,3 +21,13 @@ module _ {X : Type 0} (layer : Layer) (line : ℕ) where
   pub placed_err : (answer : Result X Refusal) (fault : Fault) → placed answer layer line ≡ Err fault → (answer ≡ Err fault.refusal) × (fault ≡ record { refusal = fault.refusal; layer = layer; line = line; byte = 0 })
   placed_err (Ok y) fault e = let no : ⊥ = cc in absurd no
   placed_err (Err f) fault e = (cc, (cc))
+
+-- what was there, from what was made of it
+module _ {X E : Type 0} (e : E) where
+  pub was_there : (o : Option X) (x : X) → ok_or o e ≡ Ok x → o ≡ Some x
+  was_there None x h = let no : ⊥ = cc in absurd no
+  was_there (Some y) x h = cc
+
+  pub was_missing : (o : Option X) (f : E) → ok_or o e ≡ Err f → (o ≡ None) × (f ≡ e)
+  was_missing None f h = (refl, (cc))
+  was_missing (Some y) f h = let no : ⊥ = cc in absurd no

@@ -47,9 +47,8 @@ fn start_layer(moment: u64) -> Layer
 pub fn open_plan(reader: &mut Reader, mut tables: Tables) -> Result<Opening, Fault>
     ensures { MatchResult result (λ o. Opened (bytes_left reader.old) (line_number reader.old) (rows_in tables) o.verdict o.engine.bank o.engine.state (bytes_left reader.new) (line_number reader.new)) (λ fault. Unopened (bytes_left reader.old) (line_number reader.old) (rows_in tables) fault) }
 {
-    let Some(start) = read_plan(reader, &mut tables)? else {
-        return Err(without_go(reader.line_number()));
-    };
+    let go = read_plan(reader, &mut tables)?;
+    let start = go.ok_or(without_go(reader.line_number()))?;
     let engine = Engine::start(tables.into_bank(), start.moment);
     let verdict = at_line(engine.verdict(), start_layer(start.moment), start.line)?;
     Ok(Opening { verdict, engine })

@@ -57,6 +57,7 @@ pub(crate) fn run_script<B: Bank + Drop>(
 {
     while !reader.at_end() {
         let line = reader.line_number();
+        // A fault is told and not carried, and ends the script.
         match reader.next::<Call>() {
             Ok(call) => answers.tell(perform(&mut engine, call, line))?,
             Err(fault) => return answers.tell(Answer::Refused(fault)),

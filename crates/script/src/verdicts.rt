@@ -13,10 +13,8 @@ use text::Reader;
 fn streams_only(read: Result<Option<Start>, Fault>) -> Result<(), Refusal>
     ensures { result ≡ streams_only read }
 {
-    match read.map_err(|fault| fault.refusal)? {
-        None => Ok(()),
-        Some(_) => Err(Refusal::OutOfShape),
-    }
+    let go = read.map_err(|fault| fault.refusal)?;
+    go.map_or(Ok(()), |_| Err(Refusal::OutOfShape))
 }
 
 // The bank need not begin: what it can be asked for does not change by that.

@@ -17,6 +17,7 @@ pub(crate) fn answer_to(
     ensures { OnOk result ((rows_in tables ≡ no_rows → string_bytes answers.old.lines ≡ [] → Replayed text.now (string_bytes answers.new.lines))) }
 {
     let mut reader = Reader::new(text);
+    // A fault is told and not carried, so each arm has its own to do.
     match open_plan(&mut reader, tables) {
         Err(fault) => answers.tell(Answer::Refused(fault)),
         Ok(opening) => {
