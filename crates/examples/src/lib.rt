@@ -12,12 +12,14 @@ mod tests {
     use bank::{Bank, most_accepted};
     use demand::{admit, demand_at, load, sporadic_share};
     use join::Joined;
+    use plan::{Answers, Tables, open_plan};
     use script::play;
     use server::replay;
     use std::alloc::Global;
     use std::test::Fail;
     use stream::{Phase, Point, Record, Refusal};
     use table::{Raster, Shortfall, Sporadic};
+    use text::{Answer, Reader};
 
     #[test]
     fn demands_at_each_length(rt: HostRuntime) -> Result<(), Fail> {
@@ -178,6 +180,20 @@ mod tests {
             let written = play(rt.alloc(), text.as_bytes())?;
             assert_eq!(rt; written.as_str(), answer, "{}", text);
         }
+        Ok(())
+    }
+
+    // What memory is asked for is had: the tables of a plan, and the text of an answer.
+    #[test]
+    fn a_plan_is_opened_and_told(rt: HostRuntime) -> Result<(), Fail> {
+        let tables = Tables::new(rt.alloc())?;
+        let mut reader = Reader::new(b"(S L (1 0) (2 2) 2)\n(go 0)\n");
+        let verdict = open_plan(&mut reader, tables)?.verdict;
+        let mut answers = Answers {
+            lines: String::new(rt.alloc()),
+        };
+        answers.tell(Answer::Accepted(verdict))?;
+        assert_eq!(rt; answers.lines.as_str(), "(accepted 2 3 (normal 1 1))\n");
         Ok(())
     }
 
