@@ -74,6 +74,7 @@ impl<L: Bank, R: Bank> Bank for Joined<L, R> {
         if all <= MOST { all } else { MOST }
     }
 
+    // This and the next three ask one question of two types of bank; a function of them would take two closures each time.
     fn record_of(&self, stream: u64) -> Option<Record> {
         match self.route(stream)? {
             Part::Left(at) => self.left.record_of(at),

@@ -50,6 +50,7 @@ impl Ranked for Point {
     }
 }
 
+// Not said once for every `Ord`: who ranks items of another type would then owe an `Ord` of it.
 impl Ranked for (u64, u64) {
     ghost below = { pair_below };
 

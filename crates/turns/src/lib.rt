@@ -58,7 +58,7 @@ pub struct Tally {
     pub dropped: u64,
 }
 
-// What became of the jobs. Each accepted job is counted once more, as finished, cut, dropped or waiting.
+// What became of the jobs. Each accepted job is counted once more, as finished, cut, dropped or waiting. Five numbers, as users read them, and no tally with a number beside it.
 #[derive(Clone, Copy, PartialEq, Eq, Debug)]
 pub struct Counts {
     pub accepted: u64,

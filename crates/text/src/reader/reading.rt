@@ -17,6 +17,7 @@ impl<'a> Reader<'a> {
         ensures complete { AllRead F.bytes F.valid (bytes_left self.old) result }
     {
         let mut cursor = Cursor { rest: self.rest };
+        // A match, since `map_err` needs a clause on its closure: that the misfit lies within the text.
         match F::from_line(&mut cursor) {
             Ok(value) => {
                 self.pass(cursor.rest);
