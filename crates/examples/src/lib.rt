@@ -63,7 +63,7 @@ mod tests {
         Ok(())
     }
 
-    // The loop stands in three examples: a function for it would have to take a handle that may stop.
+    // The loop stands in three examples: only an example may be given a handle that can stop, so no function can have it.
     #[test]
     fn answers_to_plans(rt: HostRuntime) -> Result<(), Fail> {
         let cases = [
@@ -189,9 +189,7 @@ mod tests {
         let tables = Tables::new(rt.alloc())?;
         let mut reader = Reader::new(b"(S L (1 0) (2 2) 2)\n(go 0)\n");
         let verdict = open_plan(&mut reader, tables)?.verdict;
-        let mut answers = Answers {
-            lines: String::new(rt.alloc()),
-        };
+        let mut answers = Answers::new(rt.alloc());
         answers.tell(Answer::Accepted(verdict))?;
         assert_eq!(rt; answers.lines.as_str(), "(accepted 2 3 (normal 1 1))\n");
         Ok(())
@@ -236,10 +234,7 @@ mod tests {
 
     #[test]
     fn the_thirty_third_stream(rt: HostRuntime) -> Result<(), Fail> {
-        let mut bank = Sporadic::new(rt.alloc())?;
-        for _ in 0..32 {
-            bank.grow(Record::new(PREVIEW)?)?;
-        }
+        let mut bank = full_table(rt.alloc())?;
         assert_eq!(rt;
             bank.grow(Record::new(PREVIEW)?),
             Err(Refusal::TooManyStreams)

@@ -23,9 +23,7 @@ pub fn play(heap: Global, text: &[u8]) -> Result<String, AllocError>
     ensures { IfOk result (λ s. Replayed text.now (string_bytes s)) }
 {
     let tables = Tables::new(heap)?;
-    let mut answers = Answers {
-        lines: String::new(heap),
-    };
+    let mut answers = Answers::new(heap);
     answer_to(text, tables, &mut answers)?;
     Ok(answers.lines)
 }
