@@ -11,6 +11,9 @@ mod shown;
 
 pub use limits::Record;
 
+// No plan, table or worker has more streams.
+pub const MOST_STREAMS: usize = 32;
+
 // A critical stream is kept through an overrun; the jobs of a background stream are dropped when one begins.
 #[derive(Clone, Copy, PartialEq, Eq, Debug)]
 pub enum Class {

@@ -6,12 +6,12 @@ ghost use Rattle.turns.specs.declared.Job.{Job as Waiting};
 
 use crate::Job;
 use std::marker::Model;
-use stream::Class;
+use stream::{Class, MOST_STREAMS};
 
 // At most one job of each of 32 streams, seen as the list of their places.
 #[derive(Clone, Copy)]
 pub struct Jobs {
-    places: [Option<Job>; 32],
+    places: [Option<Job>; MOST_STREAMS],
 }
 
 impl Model for Jobs {
@@ -35,7 +35,7 @@ impl Jobs {
     pub fn none() -> Jobs
         ensures { result ≡ replicate 32 None }
     {
-        Jobs { places: [None; 32] }
+        Jobs { places: [None; MOST_STREAMS] }
     }
 
     // The job of a stream, if one waits.
