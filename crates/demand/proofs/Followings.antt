@@ -36,6 +36,6 @@ module _ {X : Type 0} (P Q : ℕ → X → Type 0) where
 
 module _ {S M : Type 0} (k : Kind S) (b : S) where
   -- stream i, of which nothing is known yet
-  pub record Fresh (blank : M) (i : ℕ) (stream : Followed M) : Type 0 where
+  pub record Fresh (New : M → Type 0) (i : ℕ) (stream : Followed M) : Type 0 where
     pub listed : Listed k b i stream.row
-    pub memory : stream.memory ≡ blank
+    pub memory : New stream.memory

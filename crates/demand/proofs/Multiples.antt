@@ -1,6 +1,7 @@
 -- The least common multiple grows gap by gap: a common multiple is a multiple of the least one, since what is left over would be a smaller one.
 
-use Rattle.std.proofs.Common.{◌≡◌, ℕ, ◌+◌, ◌*◌, ◌/◌, ◌%◌, ◌<◌, ◌≤◌, Some, None, sym, ap, ◌∙◌, ⊎_elim, mul-le-mul_right, one-mul, zero-mul, arith}
+use Rattle.std.proofs.Common.{◌≡◌, ◌≢◌, ℕ, ◌+◌, ◌*◌, ◌/◌, ◌%◌, ◌<◌, ◌≤◌, Option, MatchOption, Some, None, refl, sym, ap, ◌∙◌, ⊎_elim, mul-le-mul_right, one-mul, zero-mul, arith}
+use Rattle.std.proofs.Math.Nat.{le-div_iff_mul-le}
 use native.Mathlib.Nat.{mod-add-div', dvd-mul_left_of_dvd, dvd_of_mod-eq-zero, mod-eq-zero_of_dvd, mod-mod_of_dvd}
 use Rattle.std.proofs.lemmas.Bool.{cases_eq, cases_lt}
 use Rattle.stream.specs.declared.limits.Record.{Record}
@@ -82,3 +83,8 @@ module _ {S : Type 0} (k : Kind S) (b : S) where
         (λ (far : 1000000 < m). far)
         (λ (near : m ≤ 1000000). absurd (none (m / h) t.1 (omega (arith, t.0)) t.2))
         (cases_lt 1000000 m)
+
+-- the first multiplier below 1000000 / h + 1 is the first of all that stay within the farthest horizon
+pub first_multiplier : (h gap : ℕ) → 1 ≤ h → (found : Option ℕ) → MatchOption found ((p : ℕ) → 1 ≤ p → p < 1000000 / h + 1 → (p * h) % gap ≢ 0) (λ i. (1 ≤ i) × (i < 1000000 / h + 1) × ((i * h) % gap ≡ 0) × ((p : ℕ) → 1 ≤ p → p < i → (p * h) % gap ≢ 0)) → MatchOption found ((p : ℕ) → 1 ≤ p → p * h ≤ 1000000 → (p * h) % gap ≢ 0) (λ times. NextMultiple h gap (times * h))
+first_multiplier h gap some None none = λ p one near. none p one (let within = (le-div_iff_mul-le some).1 near in omega arith)
+first_multiplier h gap some (Some i) (one, within, divided, first) = record { times = i; some = one; is = refl; divided = divided; near = (le-div_iff_mul-le some).0 (omega arith); first = first }

@@ -21,6 +21,6 @@ module _ {S M : Type 0} (k : Kind S) (b : S) (right : Row → (ℕ → ℕ) → 
     pub whole : Places k b streams
     pub each : (i : ℕ) (d : Followed M) → i < length streams → Follow t (i + 1) (slice_index_or streams i d)
 
-  -- nothing is remembered yet: they can be followed from each length from which a blank memory is right
-  abbrev pub Unknown : M → List (Followed M) → Type 0
-  Unknown blank streams = (t : ℕ) → ((row : Row) (N : ℕ → ℕ) → right row N t blank) → Follows t streams
+  -- nothing is remembered yet: they can be followed from each length from which every new memory is right
+  abbrev pub Unknown : (M → Type 0) → List (Followed M) → Type 0
+  Unknown New streams = (t : ℕ) → ((row : Row) (N : ℕ → ℕ) (memory : M) → New memory → right row N t memory) → Follows t streams

@@ -1,3 +1,4 @@
+pub mod Asking
 pub mod Shares
 pub mod Demands
 pub mod Horizons

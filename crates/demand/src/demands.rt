@@ -28,7 +28,7 @@ impl<M: Memory> Default for Followed<M> {
                 deadline: 0,
                 gap: 0,
             },
-            memory: M::blank(),
+            memory: M::default(),
         }
     }
 }
@@ -36,13 +36,13 @@ impl<M: Memory> Default for Followed<M> {
 // Puts each stream in its place, before the first length.
 pub(crate) fn list<B: Bank, M: Memory>(bank: &B, streams: &mut [Followed<M>])
     requires { Places B.kind bank.now streams.old }
-    ensures { Unknown B.kind bank.now M.right M.blank streams.new }
+    ensures { Unknown B.kind bank.now M.right M.is_default streams.new }
 {
     for (i, stream) in streams.iter_mut().enumerate() {
         if let Some(record) = bank.record_of(i as u64 + 1) {
             *stream = Followed {
                 row: record.row(),
-                memory: M::blank(),
+                memory: M::default(),
             };
         }
     }

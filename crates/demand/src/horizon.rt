@@ -1,6 +1,6 @@
 // The horizon of a bank: the least common multiple of its gaps.
 
-ghost use Rattle.std.specs.Prelude.{◌≡◌, ℕ, ◌*◌, ◌%◌, ◌<◌, ◌≤◌, MatchResult, ◌≢◌};
+ghost use Rattle.std.specs.Prelude.{◌≡◌, ℕ, ◌*◌, ◌%◌, ◌<◌, ◌≤◌, MatchOption, MatchResult, ◌≢◌};
 ghost use Rattle.stream.specs.declared.Refusal.TheVariants.{HorizonTooFar};
 ghost use Rattle.demand.specs.Horizons.{Common, Horizon};
 ghost use Rattle.demand.specs.Multiples.{NextMultiple};
@@ -9,19 +9,22 @@ use crate::FARTHEST;
 use bank::Bank;
 use stream::Refusal;
 
-// The first of h, 2h, 3h .. that the gap divides.
+// By how much h is multiplied for the first of h, 2h, 3h .. that the gap divides.
+fn multiplier(h: u64, gap: u64) -> Option<u64>
+    requires some { 1 ≤ h }
+    requires spaced { 1 ≤ gap }
+    ensures { MatchOption result ((p : ℕ) → 1 ≤ p → p * h ≤ 1000000 → (p * h) % gap ≢ 0) (λ times. NextMultiple h gap (times * h)) }
+{
+    (1..FARTHEST / h + 1).find(|&times| times * h % gap == 0)
+}
+
 fn next_multiple(h: u64, gap: u64) -> Result<u64, Refusal>
     requires some { 1 ≤ h }
     requires spaced { 1 ≤ gap }
     ensures { MatchResult result (λ x. NextMultiple h gap x) (λ e. (e ≡ HorizonTooFar) × ((p : ℕ) → 1 ≤ p → p * h ≤ 1000000 → (p * h) % gap ≢ 0)) }
 {
-    for times in 1..FARTHEST / h + 1 {
-        let multiple = times * h;
-        if multiple % gap == 0 {
-            return Ok(multiple);
-        }
-    }
-    Err(Refusal::HorizonTooFar)
+    let times = multiplier(h, gap).ok_or(Refusal::HorizonTooFar)?;
+    Ok(times * h)
 }
 
 pub(crate) fn common_multiple<B: Bank>(bank: &B) -> Result<u64, Refusal>

@@ -2,14 +2,15 @@
 
 #![tactic(auto)]
 
-ghost use Rattle.std.specs.Prelude.{MatchResult};
+ghost use Rattle.std.specs.Prelude.{◌≡◌, MatchResult};
+ghost use Rattle.demand.specs.Shares.{slack};
 ghost use Rattle.demand.specs.Verdicts.{Accepts, Decided, DemandTold, Judged, Refuses};
 
 use bank::Bank;
 use demands::{Followed, demand_of};
 use horizon::common_multiple;
 use scan::scan;
-use stream::{Phase, Refusal, Verdict};
+use stream::{MOST_STREAMS, Phase, Refusal, Row, Verdict};
 
 mod asked;
 mod demands;
@@ -24,31 +25,35 @@ mod scan;
 pub use loads::load;
 pub use published::sporadic_share;
 
-// The most streams that are judged together.
-const MOST_STREAMS: u64 = 32;
-
 // No horizon may lie farther.
 const FARTHEST: u64 = 1000000;
 
 // The plateau of a stream's ceiling that was last looked at: where it began, and its value; 0 before the first look.
-#[derive(Clone, Copy)]
+#[derive(Clone, Copy, Default)]
 struct Plateau {
     start: u64,
     level: u64,
 }
 
 // A share that stays the same at every length below `end`.
-#[derive(Clone, Copy)]
+#[derive(Clone, Copy, Default)]
 struct Steady {
     share: u64,
     end: u64,
 }
 
 // What is known of a stream in an overrun.
-#[derive(Clone, Copy)]
+#[derive(Clone, Copy, Default)]
 struct Watch {
     plateau: Plateau,
     steady: Steady,
+}
+
+// The ticks between the short deadline and the deadline.
+fn slack(row: &Row) -> u64
+    ensures { result ≡ slack row.now }
+{
+    row.deadline.saturating_sub(row.short)
 }
 
 // Whether a bank may run, whatever comes: refused for no stream, more than 32, a horizon above 1,000,000, or the first length that a demand exceeds. No length above the horizon is looked at, since none is worse.
@@ -67,7 +72,7 @@ fn judge<B: Bank>(bank: &B) -> Result<Verdict, Refusal>
     if streams == 0 {
         return Err(Refusal::NoStream);
     }
-    if streams > MOST_STREAMS {
+    if streams > MOST_STREAMS as u64 {
         return Err(Refusal::TooManyStreams);
     }
     let horizon = common_multiple(bank)?;
@@ -78,20 +83,20 @@ fn judge<B: Bank>(bank: &B) -> Result<Verdict, Refusal>
 pub fn demand_at<B: Bank>(bank: &B, phase: Phase, length: u64) -> Option<u64>
     ensures { DemandTold B.kind bank.now phase length result }
 {
-    let streams = bank.streams();
+    let streams = bank.streams() as usize;
     if streams > MOST_STREAMS || length > FARTHEST {
         return None;
     }
-    let streams = streams as usize;
+    // An array of a type parameter asks for a bound on the size of its items, so those who name the type of memory make the array.
     Some(match phase {
-        Phase::Normal => demand_of(
+        Phase::Normal => demand_of::<B, Steady>(
             bank,
-            &mut [Followed::<Steady>::default(); 32][..streams],
+            &mut [Followed::default(); MOST_STREAMS][..streams],
             length,
         ),
-        Phase::Overrun => demand_of(
+        Phase::Overrun => demand_of::<B, Watch>(
             bank,
-            &mut [Followed::<Watch>::default(); 32][..streams],
+            &mut [Followed::default(); MOST_STREAMS][..streams],
             length,
         ),
     })

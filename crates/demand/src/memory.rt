@@ -3,37 +3,32 @@
 ghost use Rattle.std.specs.Prelude.{◌≡◌, ℕ, ◌+◌, ◌^◌, ◌<◌, ◌≤◌};
 ghost use Rattle.stream.specs.declared.Phase.{Phase as Mode};
 ghost use Rattle.stream.specs.declared.Row.{Row as Numbers};
+ghost use Rattle.demand.specs.Asking.{curve};
 ghost use Rattle.demand.specs.Shares.{share_of};
 
 use crate::asked::Asked;
 use bank::Bank;
 use stream::Phase;
 
-// A memory of the share of one phase. `right` says what makes it right from a length on, of a stream with this row and this ceiling.
-pub(crate) trait Memory: Copy {
+// A memory of the share of one phase; a new one knows nothing. `right` says what makes it right from a length on, of a stream with this row and this ceiling.
+pub(crate) trait Memory: Copy + Default {
     ghost PHASE: { Mode };
-
-    ghost blank: { Self };
 
     ghost right: { Numbers → (ℕ → ℕ) → ℕ → Self → Type 0 };
 
     const PHASE: Phase;
 
-    // Nothing is known yet.
-    fn blank() -> Self
-        ensures { result ≡ blank };
-
-    // The first length to look at on the way to `length`, with a blank memory.
+    // The first length to look at on the way to `length`, with a new memory.
     fn first(length: u64) -> u64
         ensures upto { result ≤ length }
-        ensures fresh { (row : Numbers) (N : ℕ → ℕ) → right row N result blank };
+        ensures fresh { (row : Numbers) (N : ℕ → ℕ) (memory : Self) → Self.is_default memory → right row N result memory };
 
     // The share at this length, remembered for the lengths after it.
     fn share_at<B: Bank>(&mut self, stream: &Asked<B>) -> u64
-        requires right { right stream.now.row.now (B.kind.ceiling stream.now.bank.now stream.now.number) stream.now.length self.old }
-        ensures share { result ≡ share_of PHASE stream.now.row.now (B.kind.ceiling stream.now.bank.now stream.now.number) stream.now.length }
+        requires right { right stream.now.row.now (curve stream.now) stream.now.length self.old }
+        ensures share { result ≡ share_of PHASE stream.now.row.now (curve stream.now) stream.now.length }
         ensures bound { result < 2 ^ 37 }
-        ensures right { right stream.now.row.now (B.kind.ceiling stream.now.bank.now stream.now.number) (stream.now.length + 1) self.new };
+        ensures right { right stream.now.row.now (curve stream.now) (stream.now.length + 1) self.new };
 
-    ghost begins: { (row : Numbers) (N : ℕ → ℕ) → right row N 0 blank };
+    ghost begins: { (row : Numbers) (N : ℕ → ℕ) (memory : Self) → Self.is_default memory → right row N 0 memory };
 }

@@ -2,6 +2,7 @@
 
 ghost use Rattle.std.specs.Prelude.{◌≡◌, ◌+◌, ◌≤◌};
 ghost use Rattle.stream.specs.declared.Phase.TheVariants.{Normal};
+ghost use Rattle.demand.specs.Asking.{curve};
 ghost use Rattle.demand.specs.Shares.{normal_share};
 ghost use Rattle.demand.specs.Watching.{Holds};
 ghost use Rattle.std.proofs.Common.{rules};
@@ -15,8 +16,8 @@ use stream::Phase;
 // The normal share from here on.
 #[tactic(auto, using(crate::proofs::Listing::listed_within, crate::proofs::Widths::product_fits, crate::proofs::Widths::budget_fits), unfolding(crate::specs::Shares::normal_share))]
 fn steady_from<B: Bank>(stream: &Asked<B>) -> Steady
-    ensures value { result.share ≡ normal_share stream.now.row.now (B.kind.ceiling stream.now.bank.now stream.now.number) stream.now.length }
-    ensures holds { Holds (normal_share stream.now.row.now (B.kind.ceiling stream.now.bank.now stream.now.number)) (stream.now.length + 1) result }
+    ensures value { result.share ≡ normal_share stream.now.row.now (curve stream.now) stream.now.length }
+    ensures holds { Holds (normal_share stream.now.row.now (curve stream.now)) (stream.now.length + 1) result }
 {
     let Asked { row, length, .. } = *stream;
     if length < row.short {
@@ -25,7 +26,7 @@ fn steady_from<B: Bank>(stream: &Asked<B>) -> Steady
             end: row.short,
         };
     }
-    let level = stream.level(row.short);
+    let level = stream.ceiling_at(length, row.short);
     let last = (length + row.gap - 1).min(FARTHEST);
     Steady {
         share: level * row.budget,
@@ -36,17 +37,11 @@ fn steady_from<B: Bank>(stream: &Asked<B>) -> Steady
 impl Memory for Steady {
     ghost PHASE = { Normal };
 
-    ghost blank = { record { share = 0; end = 0 } };
-
     ghost right = { λ row N t s. Holds (normal_share row N) t s };
 
     ghost begins = { Prim.search rules };
 
     const PHASE: Phase = Phase::Normal;
-
-    fn blank() -> Steady {
-        Steady { share: 0, end: 0 }
-    }
 
     // No length before it matters.
     fn first(length: u64) -> u64 {

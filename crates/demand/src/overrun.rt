@@ -2,13 +2,14 @@
 
 ghost use Rattle.std.specs.Prelude.{◌≡◌, ℕ, ◌+◌, ◌-◌, ◌*◌, ◌^◌, ◌<◌, ◌≤◌};
 ghost use Rattle.stream.specs.declared.Phase.TheVariants.{Overrun};
+ghost use Rattle.demand.specs.Asking.{curve};
 ghost use Rattle.demand.specs.Shares.{overrun_share};
 ghost use Rattle.demand.specs.Watching.{Kept, Watched, moved};
 ghost use Rattle.std.proofs.Common.{rules};
 
 use crate::asked::Asked;
 use crate::memory::Memory;
-use crate::{FARTHEST, Plateau, Steady, Watch};
+use crate::{FARTHEST, Plateau, Steady, Watch, slack};
 use bank::Bank;
 use stream::{Class, Phase, Row};
 
@@ -37,21 +38,21 @@ fn less_done(row: &Row, level: u64, since: u64) -> u64
 // The overrun share, and the plateau from here on. The n that counts is the last one on the plateau, so no other is tried.
 #[tactic(auto, using(crate::proofs::Plateaus::share_of_background, crate::proofs::Plateaus::share_before_slack, crate::proofs::Listing::listed_within, crate::proofs::Widths::certain_fits, crate::proofs::Widths::product_fits))]
 fn share_on<B: Bank>(stream: &Asked<B>, seen: Plateau) -> (Plateau, u64)
-    requires { Watched stream.now.row.now (B.kind.ceiling stream.now.bank.now stream.now.number) stream.now.length seen }
-    ensures value { result.1 ≡ overrun_share stream.now.row.now (B.kind.ceiling stream.now.bank.now stream.now.number) stream.now.length }
+    requires { Watched stream.now.row.now (curve stream.now) stream.now.length seen }
+    ensures value { result.1 ≡ overrun_share stream.now.row.now (curve stream.now) stream.now.length }
     ensures bound { result.1 < 2 ^ 37 }
-    ensures watched { Watched stream.now.row.now (B.kind.ceiling stream.now.bank.now stream.now.number) (stream.now.length + 1) result.0 }
+    ensures watched { Watched stream.now.row.now (curve stream.now) (stream.now.length + 1) result.0 }
 {
     let Asked { row, length, .. } = *stream;
     match row.class {
         Class::Background => (seen, 0),
         Class::Critical => {
-            let slack = row.deadline - row.short;
+            let slack = slack(row);
             if length < slack {
                 return (seen, 0);
             }
             let m = length - slack;
-            let level = stream.level(slack);
+            let level = stream.ceiling_at(length, slack);
             let plateau = seen.at(m, level);
             (plateau, less_done(row, level, m - plateau.start))
         }
@@ -61,15 +62,15 @@ fn share_on<B: Bank>(stream: &Asked<B>, seen: Plateau) -> (Plateau, u64)
 // Where the overrun share may change again: past its slack, a carried-over job first has to do its budget, and then the plateau has to end.
 #[tactic(auto, using(crate::proofs::Plateaus::share_of_background, crate::proofs::Plateaus::share_before_slack))]
 fn share_end<B: Bank>(stream: &Asked<B>, plateau: Plateau) -> u64
-    requires { Watched stream.now.row.now (B.kind.ceiling stream.now.bank.now stream.now.number) (stream.now.length + 1) plateau }
-    ensures share { (q : ℕ) → stream.now.length < q → q < result → overrun_share stream.now.row.now (B.kind.ceiling stream.now.bank.now stream.now.number) q ≡ overrun_share stream.now.row.now (B.kind.ceiling stream.now.bank.now stream.now.number) stream.now.length }
-    ensures stays { (q : ℕ) → stream.now.length < q → q < result → Watched stream.now.row.now (B.kind.ceiling stream.now.bank.now stream.now.number) (q + 1) plateau }
+    requires { Watched stream.now.row.now (curve stream.now) (stream.now.length + 1) plateau }
+    ensures share { (q : ℕ) → stream.now.length < q → q < result → overrun_share stream.now.row.now (curve stream.now) q ≡ overrun_share stream.now.row.now (curve stream.now) stream.now.length }
+    ensures stays { (q : ℕ) → stream.now.length < q → q < result → Watched stream.now.row.now (curve stream.now) (q + 1) plateau }
 {
     let Asked { row, length, .. } = *stream;
     match row.class {
         Class::Background => FARTHEST + 1,
         Class::Critical => {
-            let slack = row.deadline - row.short;
+            let slack = slack(row);
             if length < slack {
                 return slack;
             }
@@ -85,20 +86,11 @@ fn share_end<B: Bank>(stream: &Asked<B>, plateau: Plateau) -> u64
 impl Memory for Watch {
     ghost PHASE = { Overrun };
 
-    ghost blank = { record { plateau = record { start = 0; level = 0 }; steady = record { share = 0; end = 0 } } };
-
     ghost right = { Kept };
 
     ghost begins = { Prim.search rules };
 
     const PHASE: Phase = Phase::Overrun;
-
-    fn blank() -> Watch {
-        Watch {
-            plateau: Plateau { start: 0, level: 0 },
-            steady: Steady { share: 0, end: 0 },
-        }
-    }
 
     // Every plateau before it is looked at.
     fn first(_length: u64) -> u64 {

@@ -2,17 +2,16 @@
 
 ghost use Rattle.std.specs.Prelude.{◌≡◌, ◌≤◌};
 ghost use Rattle.demand.specs.Published.{ShareTold, closed, deducted};
-ghost use Rattle.stream.specs.Limits.{Within};
 
-use crate::FARTHEST;
-use stream::{Class, Record, Row};
+use crate::{FARTHEST, slack};
+use stream::{Class, Record};
 
 // What a carried-over job must have done by then.
-fn deduction(row: Row, length: u64) -> u64
-    requires { Within row }
-    ensures { result ≡ deducted row length }
+fn deduction(stream: Record, length: u64) -> u64
+    ensures { result ≡ deducted stream.row length }
 {
-    let slack = row.deadline - row.short;
+    let row = stream.row();
+    let slack = slack(&row);
     let rest = length % row.gap;
     if slack <= rest && rest < row.deadline {
         (row.budget + slack).saturating_sub(rest)
@@ -21,20 +20,20 @@ fn deduction(row: Row, length: u64) -> u64
     }
 }
 
-fn closed_share(row: Row, length: u64) -> u64
-    requires limits { Within row }
-    requires near { length ≤ 1000000 }
-    ensures { result ≡ closed row length }
+fn closed_share(stream: Record, length: u64) -> u64
+    requires { length ≤ 1000000 }
+    ensures { result ≡ closed stream.row length }
 {
+    let row = stream.row();
     match row.class {
         Class::Background => 0,
         Class::Critical => {
-            let slack = row.deadline - row.short;
+            let slack = slack(&row);
             if length < slack {
                 return 0;
             }
             let releases = (length - slack) / row.gap + 1;
-            (releases * row.certain).saturating_sub(deduction(row, length))
+            (releases * row.certain).saturating_sub(deduction(stream, length))
         }
     }
 }
@@ -47,5 +46,5 @@ pub fn sporadic_share(stream: Record, length: u64) -> Option<u64>
     if length > FARTHEST {
         return None;
     }
-    Some(closed_share(stream.row(), length))
+    Some(closed_share(stream, length))
 }

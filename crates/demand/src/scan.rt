@@ -3,7 +3,7 @@
 ghost use Rattle.std.specs.Prelude.{◌≡◌, ◌+◌, ◌<◌, ◌≤◌, MatchResult};
 ghost use Rattle.least.specs.Firsts.{FirstLeast};
 ghost use Rattle.least.specs.Orders.{by_margin, point_below};
-ghost use Rattle.demand.specs.Following.{Follows, Places};
+ghost use Rattle.demand.specs.Following.{Follows};
 ghost use Rattle.demand.specs.Verdicts.{InReach, Accepts, Passes, Refuses, Stops, candidates};
 
 use crate::demands::{Followed, list, next_demand};
@@ -11,7 +11,7 @@ use crate::memory::Memory;
 use crate::{Steady, Watch};
 use bank::Bank;
 use least::least;
-use stream::{Point, Refusal, Verdict};
+use stream::{MOST_STREAMS, Point, Refusal, Verdict};
 
 // The point of a phase at a length, or the refusal if the demand exceeds it.
 fn look<B: Bank, M: Memory>(
@@ -61,18 +61,14 @@ fn keep_nearest(nearest: &mut Option<Point>, length: u64, normal: Point, overrun
     }
 }
 
-// Looks at every length up to the horizon, in order, until a demand exceeds one.
-fn scan_places<B: Bank>(
-    bank: &B,
-    steadies: &mut [Followed<Steady>],
-    watches: &mut [Followed<Watch>],
-    horizon: u64,
-) -> Result<Verdict, Refusal>
-    requires steadies { Places B.kind bank.now steadies.old }
-    requires watches { Places B.kind bank.now watches.old }
-    requires reach { InReach B.kind bank.now horizon }
+// Looks at every length up to the horizon, in order, until a demand exceeds one. An `ArrayVec` in place of the arrays misses a bar of speed (docs/SPEED.md).
+pub(crate) fn scan<B: Bank>(bank: &B, horizon: u64) -> Result<Verdict, Refusal>
+    requires { InReach B.kind bank.now horizon }
     ensures { MatchResult result (λ v. Accepts B.kind bank.now v) (λ e. Refuses B.kind bank.now e) }
 {
+    let streams = bank.streams() as usize;
+    let steadies = &mut [Followed::<Steady>::default(); MOST_STREAMS][..streams];
+    let watches = &mut [Followed::<Watch>::default(); MOST_STREAMS][..streams];
     list(bank, steadies);
     list(bank, watches);
     let mut nearest = None;
@@ -89,20 +85,4 @@ fn scan_places<B: Bank>(
         }),
         None => unreachable(),
     }
-}
-
-// The same, with places for the streams. An `ArrayVec` in place of the arrays misses a bar of speed (docs/SPEED.md).
-pub(crate) fn scan<B: Bank>(bank: &B, horizon: u64) -> Result<Verdict, Refusal>
-    requires { InReach B.kind bank.now horizon }
-    ensures { MatchResult result (λ v. Accepts B.kind bank.now v) (λ e. Refuses B.kind bank.now e) }
-{
-    let streams = bank.streams() as usize;
-    let mut steadies = [Followed::<Steady>::default(); 32];
-    let mut watches = [Followed::<Watch>::default(); 32];
-    scan_places(
-        bank,
-        &mut steadies[..streams],
-        &mut watches[..streams],
-        horizon,
-    )
 }

@@ -1,4 +1,4 @@
-use Rattle.std.proofs.Common.{◌+◌, ◌<◌, length, sym, ◌∙◌, arith}
+use Rattle.std.proofs.Common.{◌+◌, ◌<◌, ◌≡◌, length, get_or, sym, arith}
 use Rattle.demand.specs.Demands.{asks}
 use Rattle.demand.specs.Following.{Follow}
 use Rattle.demand.proofs.Followings.{passing_none, passing_more}
@@ -25,8 +25,10 @@ loop-i-preserved g c =
     let i = c.loop-i.i in
     let asked = c.share_at-sum.ensures in
     let within : i < length c.loop-i.streams = omega (arith, c.loop-i-test.true) in
-    let here = c.loop-i.invariant.2.rest i c.index-streams-i.result (omega arith) within in (
-      total_step i c.loop-i.sum c.share_at-sum.result (asks k b m.PHASE t) c.loop-i.invariant.0 (asked.share ∙ sym (asks_listed k b m.PHASE (i + 1) _ t here.listed)),
+    let here = c.loop-i.invariant.2.rest i c.index-streams-i.result (omega arith) within in
+    let row = (get_or c.loop-i.streams i c.index-streams-i.result).row in
+    let share : c.share_at-sum.result ≡ asks k b m.PHASE t (i + 1) = rw (asks_listed k b m.PHASE (i + 1) row t here.listed) asked.share in (
+      total_step i c.loop-i.sum c.share_at-sum.result (asks k b m.PHASE t) c.loop-i.invariant.0 share,
       omega (arith, c.loop-i.invariant.1, asked.bound),
       passing_more (Follow k b m.right (t + 1)) (Follow k b m.right t) i c.loop-i.streams _ within (record { listed = here.listed; memory = asked.right }) c.loop-i.invariant.2,
     )

@@ -1,12 +1,10 @@
 use Rattle.std.proofs.Common.{Some, sym, ap, ◌∙◌, arith}
-use Rattle.stream.specs.declared.Row.{Row}
-use Rattle.demand.specs.Published.{closed}
 use Rattle.demand.proofs.Publishing.{by_plateau, published_share, closed_share}
 use Rattle.demand.proofs.published.sporadic_share.Goals as goal
 
 pub returns : goal.returns
 returns c = record {
-  told = λ near. ap Some (c.closed_share.ensures ∙ ap (λ (x : Row). closed x c.args.length) c.row.ensures ∙ sym (closed_share c.args.stream.row c.args.stream.within c.args.length));
+  told = λ near. ap Some (c.closed_share.ensures ∙ sym (closed_share c.args.stream.row c.args.stream.within c.args.length));
   far = λ far. let near = c.if-length-gt-FARTHEST.false in let z : ⊥ = omega arith in absurd z;
   published = published_share c.args.stream.row c.args.stream.within;
   plateaus = by_plateau c.args.stream.row c.args.stream.within;

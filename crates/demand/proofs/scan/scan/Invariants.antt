@@ -4,7 +4,7 @@ use Rattle.demand.specs.Following.{Follows}
 use Rattle.demand.specs.Verdicts.{NearestSoFar}
 use Rattle.demand.specs.Watching.{Holds, Kept}
 use Rattle.demand.specs.Shares.{normal_share}
-use Rattle.demand.proofs.scan.scan_places.Given as goal
+use Rattle.demand.proofs.scan.scan.Given as goal
 
 abbrev pub invariant-loop-length : goal.invariant-loop-length
 invariant-loop-length g l =

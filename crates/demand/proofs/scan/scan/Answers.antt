@@ -1,13 +1,13 @@
 use Rattle.std.proofs.Common.{◌+◌, ◌-◌, rules, arith, below_more}
 use Rattle.demand.specs.Demands.{Fits}
 use Rattle.demand.proofs.Nearest.{nearest_upto}
-use Rattle.demand.proofs.scan.scan_places.Goals as goal
+use Rattle.demand.proofs.scan.scan.Goals as goal
 
 pub loop-length-init : goal.loop-length-init
 loop-length-init g c = (
   λ t h. let z : ⊥ = omega arith in absurd z,
-  c.list.ensures 0 (λ row N. search rules),
-  c.list-2.ensures 0 (λ row N. search rules),
+  c.list.ensures 0 (λ row N memory new. search rules),
+  c.list-2.ensures 0 (λ row N memory new. search rules),
   omega arith,
 )
 

@@ -1,0 +1,36 @@
+// Asking a stream for its ceiling.
+
+ghost use Rattle.std.specs.Prelude.{◌≡◌, ℕ, ◌<◌, ◌≤◌};
+ghost use Rattle.bank.specs.Ceilings.{back};
+ghost use Rattle.demand.specs.Asking.{curve};
+
+use crate::asked::Asked;
+use bank::Bank;
+
+impl<'a, 'b, B: Bank> Asked<'a, 'b, B> {
+    // The ceiling at `length - before`, both within what a bank is asked.
+    pub(crate) fn ceiling_at(&self, length: u64, before: u64) -> u64
+        requires length_within { length ≤ 1000000 }
+        requires before_within { before ≤ 65535 }
+        ensures value { result ≡ back (curve self.now) length before }
+        ensures bound { result ≤ 1065535 }
+    {
+        self.bank
+            .ceiling(self.number, length as i64 - before as i64)
+            .unwrap_or(0)
+    }
+
+    // The lengths from here on, below which the ceiling is certain to stay at `level`: it never falls, so it is the same up to `last` if it is there.
+    pub(crate) fn level_end(&self, level: u64, before: u64, last: u64) -> u64
+        requires before_within { before ≤ 65535 }
+        requires last_within { last ≤ 1000000 }
+        requires level { level ≡ back (curve self.now) self.now.length before }
+        ensures { (q : ℕ) → self.now.length ≤ q → q < result → back (curve self.now) q before ≡ level }
+    {
+        if self.ceiling_at(last, before) == level {
+            last + 1
+        } else {
+            self.length + 1
+        }
+    }
+}
