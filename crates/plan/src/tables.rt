@@ -6,10 +6,8 @@ ghost use Rattle.plan.specs.Plans.{AddedRaster, AddedSporadic, no_rows, rows_in,
 use bank::Bank;
 use join::Joined;
 use std::alloc::{AllocError, Global};
-use stream::{Record, Refusal, Row};
+use stream::{MOST_STREAMS, Record, Refusal, Row};
 use table::{Raster, Sporadic};
-
-const MOST_STREAMS: u64 = 32;
 
 // A plan is judged as one bank.
 pub type PlanBank = Joined<Sporadic, Raster>;
@@ -37,10 +35,10 @@ impl Tables {
         Joined::new(sporadic, raster)
     }
 
-    fn streams(&self) -> u64
+    fn streams(&self) -> usize
         ensures { result ≡ size (rows_in self.now) }
     {
-        self.sporadic.streams() + self.raster.streams()
+        (self.sporadic.streams() + self.raster.streams()) as usize
     }
 
     // A sporadic stream more, unless there are 32 streams already, one on a raster came before, or its numbers break a limit.
