@@ -36,8 +36,8 @@ module _ (before later : Reader) (rows : Rows) where
   pub plan_go : (moment : ℕ) → LineRead before (Go moment) later → Planned (bytes_left before) (line_number before) rows (Ok (Some (record { moment = moment; line = line_number before }))) (bytes_left later) (line_number later) rows
   plan_go moment read = simp read.next (go read.valid read.whole)
 
-  pub plan_refused : (e : Refusal) (next : Rows) → Read before later rows (Err e) next → Planned (bytes_left before) (line_number before) rows (Err (plan_fault e (line_number before))) (bytes_left later) (line_number later) next
-  plan_refused e next read = simp read.line.next (refused read.stream read.line.valid read.line.whole read.added)
+  pub plan_refused : (e : Refusal) {answer : Result (Unit {0}) Refusal} {next : Rows} → Read before later rows answer next → answer ≡ Err e → Planned (bytes_left before) (line_number before) rows (Err (plan_fault e (line_number before))) (bytes_left later) (line_number later) next
+  plan_refused e read is = simp read.line.next (refused read.stream read.line.valid read.line.whole (rw is at read.added))
 
-  pub plan_more : (next : Rows) → Read before later rows (Ok tt) next → (answer : Result (Option Start) Fault) (last : List ℕ) (end : ℕ) (final : Rows) → Planned (bytes_left later) (line_number later) next answer last end final → Planned (bytes_left before) (line_number before) rows answer last end final
-  plan_more next read answer last end final rest = more read.stream read.line.valid read.line.whole read.added (simp read.line.next at rest)
+  pub plan_more : {added : Result (Unit {0}) Refusal} {next : Rows} → Read before later rows added next → added ≡ Ok tt → (answer : Result (Option Start) Fault) (last : List ℕ) (end : ℕ) (final : Rows) → Planned (bytes_left later) (line_number later) next answer last end final → Planned (bytes_left before) (line_number before) rows answer last end final
+  plan_more read is answer last end final rest = more read.stream read.line.valid read.line.whole (rw is at read.added) (simp read.line.next at rest)

@@ -1,7 +1,6 @@
 // Starting what a plan says.
 
 ghost use Rattle.std.specs.Prelude.{◌≡◌, MatchResult};
-ghost use Rattle.text.specs.Places.{out_of_shape};
 ghost use Rattle.text.specs.Reader.{bytes_left, line_number};
 ghost use Rattle.plan.specs.Openings.{Opened, Unopened, start_layer};
 ghost use Rattle.plan.specs.Plans.{rows_in};
@@ -9,7 +8,7 @@ ghost use Rattle.plan.specs.Plans.{rows_in};
 use crate::reading::read_plan;
 use crate::{PlanBank, Tables};
 use engine::Engine;
-use stream::{Fault, Layer, Refusal, Verdict, at_line};
+use stream::{Fault, Layer, Verdict, at_line};
 use text::Reader;
 use turns::LAST_MOMENT;
 
@@ -18,18 +17,6 @@ use turns::LAST_MOMENT;
 pub struct Opening {
     pub verdict: Verdict,
     pub engine: Engine<PlanBank>,
-}
-
-// The text ends where a go line is due.
-fn without_go(line: u64) -> Fault
-    ensures { result ≡ out_of_shape line 1 }
-{
-    Fault {
-        refusal: Refusal::OutOfShape,
-        layer: Layer::Text,
-        line,
-        byte: 1,
-    }
 }
 
 // Who refuses a start.
@@ -48,7 +35,8 @@ pub fn open_plan(reader: &mut Reader, mut tables: Tables) -> Result<Opening, Fau
     ensures { MatchResult result (λ o. Opened (bytes_left reader.old) (line_number reader.old) (rows_in tables) o.verdict o.engine.bank o.engine.state (bytes_left reader.new) (line_number reader.new)) (λ fault. Unopened (bytes_left reader.old) (line_number reader.old) (rows_in tables) fault) }
 {
     let go = read_plan(reader, &mut tables)?;
-    let start = go.ok_or(without_go(reader.line_number()))?;
+    // without a go line, the text ends where one is due
+    let start = go.ok_or(reader.out_of_shape(1))?;
     let engine = Engine::start(tables.into_bank(), start.moment);
     let verdict = at_line(engine.verdict(), start_layer(start.moment), start.line)?;
     Ok(Opening { verdict, engine })

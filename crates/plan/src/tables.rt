@@ -1,15 +1,14 @@
 // The streams of a plan, in the tables that its bank joins.
 
-ghost use Rattle.std.specs.Prelude.{◌≡◌, IfOk};
+ghost use Rattle.std.specs.Prelude.{◌≡◌, ◌<◌, ◌≤◌, IfOk, MatchResult};
+ghost use Rattle.stream.specs.declared.Refusal.TheVariants.{TooManyStreams};
 ghost use Rattle.plan.specs.Plans.{AddedRaster, AddedSporadic, no_rows, rows_in, size, tables_of};
 
 use bank::Bank;
 use join::Joined;
 use std::alloc::{AllocError, Global};
-use stream::{Record, Refusal, Row};
+use stream::{MOST_STREAMS, Record, Refusal, Row};
 use table::{Raster, Sporadic};
-
-const MOST_STREAMS: u64 = 32;
 
 // A plan is judged as one bank.
 pub type PlanBank = Joined<Sporadic, Raster>;
@@ -37,19 +36,22 @@ impl Tables {
         Joined::new(sporadic, raster)
     }
 
-    fn streams(&self) -> u64
-        ensures { result ≡ size (rows_in self.now) }
+    // Whether a stream more has a place.
+    fn room(&self) -> Result<(), Refusal>
+        ensures { MatchResult result (λ _. size (rows_in self.now) < 32) (λ refusal. (refusal ≡ TooManyStreams) × (32 ≤ size (rows_in self.now))) }
     {
-        self.sporadic.streams() + self.raster.streams()
+        if self.sporadic.streams() + self.raster.streams() < MOST_STREAMS as u64 {
+            Ok(())
+        } else {
+            Err(Refusal::TooManyStreams)
+        }
     }
 
     // A sporadic stream more, unless there are 32 streams already, one on a raster came before, or its numbers break a limit.
     pub(crate) fn add_sporadic(&mut self, row: Row) -> Result<(), Refusal>
         ensures { AddedSporadic (rows_in self.old) row result (rows_in self.new) }
     {
-        if self.streams() >= MOST_STREAMS {
-            return Err(Refusal::TooManyStreams);
-        }
+        self.room()?;
         if self.raster.streams() > 0 {
             return Err(Refusal::SporadicAfterRaster);
         }
@@ -61,9 +63,7 @@ impl Tables {
     pub(crate) fn add_raster(&mut self, row: Row, phase: u64) -> Result<(), Refusal>
         ensures { AddedRaster (rows_in self.old) row phase result (rows_in self.new) }
     {
-        if self.streams() >= MOST_STREAMS {
-            return Err(Refusal::TooManyStreams);
-        }
+        self.room()?;
         let record = Record::new(row)?;
         self.raster.grow(record, phase)
     }

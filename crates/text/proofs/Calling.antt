@@ -1,13 +1,12 @@
 -- The form of a call: one bracket, and then one of the kinds, which begin apart. A text begins with at most one call.
 
-use Rattle.std.proofs.Common.{◌≡◌, ℕ, Bool, true, false, List, ◌++◌, ◌≢◌, length, get_or, codes, sym, refl, ap, ◌∙◌}
+use Rattle.std.proofs.Common.{◌≡◌, ℕ, Bool, true, false, List, ◌++◌, ◌≢◌, length, slice_get, Option, Some, None, cond, eqb, subst, codes, sym, refl, ap, ◌∙◌}
 use Rattle.text.specs.declared.call.Call.{Call}
 use Rattle.text.specs.declared.call.Call.TheVariants.{Release, Turn, Calm}
 use Rattle.text.specs.Calls.{report_bytes, turn_bytes, order_bytes, call_bytes, ValidCall, CallForm}
 use Rattle.text.specs.Reading.{closed}
 use Rattle.text.specs.Words.{Form, Exactly, Small, Leaves, numbered}
-use Rattle.text.proofs.Forms.{leaves_by_first, leaves_here}
-use Rattle.text.proofs.Grammar.{begins_apart, differ, at_prefix, after_prefix}
+use Rattle.text.proofs.Grammar.{differ, at_prefix, after_prefix, of_kind, of_none}
 use Rattle.text.proofs.Lining.{at_numbered, after_numbered}
 use Rattle.text.proofs.Numerals.{Field}
 use Rattle.text.proofs.Unique.{same_moment}
@@ -34,48 +33,39 @@ ReleaseForm = Form (numbered (codes "release ")) Small
 pub at_call : (s : List ℕ) (k : ℕ) → Leaves (Exactly (codes "(")) s k → Leaves CallForm s k
 at_call s k l = at_prefix (codes "(") order_bytes ValidCall s k Calm tt l
 
-after_open : (s t : List ℕ) (k : ℕ) → s ≡ codes "(" ++ t → Leaves OrderForm t k → Leaves CallForm s k
-after_open s t k e l = after_prefix (codes "(") order_bytes ValidCall s t k e l
-
 -- the first byte tells the kind
+abbrev OrderKind : Option ℕ → List ℕ → Type 0
+OrderKind None = λ w. ⊥
+OrderKind (Some b) = cond (eqb b 114) ReleaseForm (cond (eqb b 116) TurnForm (cond (eqb b 99) (Exactly (codes "calm)\n")) (λ w. ⊥)))
+
+order_kind : (w : List ℕ) → OrderForm w → OrderKind (slice_get w 0) w
+order_kind w (Release n, v, f) = subst (λ (x : List ℕ). OrderKind (slice_get x 0) x) (sym f) (n, v, refl)
+order_kind w (Turn d, v, f) = subst (λ (x : List ℕ). OrderKind (slice_get x 0) x) (sym f) (d, v, refl)
+order_kind w (Calm, v, f) = subst (λ (x : List ℕ). OrderKind (slice_get x 0) x) (sym f) refl
+
 module _ (s t : List ℕ) (k : ℕ) (e : s ≡ codes "(" ++ t) where
-  pub call_release : get_or t 0 0 ≡ 114 → Leaves ReleaseForm t k → Leaves CallForm s k
-  call_release is l = after_open s t k e (leaves_by_first ReleaseForm OrderForm t k (λ w r. (Release r.0, r.1, r.2)) only l)
-    where
-      only : (w : List ℕ) → OrderForm w → get_or w 0 0 ≡ get_or t 0 0 → ReleaseForm w
-      only w (Release n, v, f) h = (n, v, f)
-      only w (Turn d, v, f) h = begins_apart f (h ∙ is) refl
-      only w (Calm, v, f) h = begins_apart f (h ∙ is) refl
+  pub call_release : slice_get t 0 ≡ Some 114 → Leaves ReleaseForm t k → Leaves CallForm s k
+  call_release = of_kind order_bytes ValidCall s t k e OrderKind order_kind _ (λ w r. (Release r.0, r.1, r.2))
 
-  pub call_turn : get_or t 0 0 ≡ 116 → Leaves TurnForm t k → Leaves CallForm s k
-  call_turn is l = after_open s t k e (leaves_by_first TurnForm OrderForm t k (λ w r. (Turn r.0, r.1, r.2)) only l)
-    where
-      only : (w : List ℕ) → OrderForm w → get_or w 0 0 ≡ get_or t 0 0 → TurnForm w
-      only w (Release n, v, f) h = begins_apart f (h ∙ is) refl
-      only w (Turn d, v, f) h = (d, v, f)
-      only w (Calm, v, f) h = begins_apart f (h ∙ is) refl
+  pub call_turn : slice_get t 0 ≡ Some 116 → Leaves TurnForm t k → Leaves CallForm s k
+  call_turn = of_kind order_bytes ValidCall s t k e OrderKind order_kind _ (λ w r. (Turn r.0, r.1, r.2))
 
-  pub call_calm : get_or t 0 0 ≡ 99 → Leaves (Exactly (codes "calm)\n")) t k → Leaves CallForm s k
-  call_calm is l = after_open s t k e (leaves_by_first (Exactly (codes "calm)\n")) OrderForm t k (λ w r. (Calm, tt, r)) only l)
-    where
-      only : (w : List ℕ) → OrderForm w → get_or w 0 0 ≡ get_or t 0 0 → Exactly (codes "calm)\n") w
-      only w (Release n, v, f) h = begins_apart f (h ∙ is) refl
-      only w (Turn d, v, f) h = begins_apart f (h ∙ is) refl
-      only w (Calm, v, f) h = f
+  pub call_calm : slice_get t 0 ≡ Some 99 → Leaves (Exactly (codes "calm)\n")) t k → Leaves CallForm s k
+  call_calm = of_kind order_bytes ValidCall s t k e OrderKind order_kind _ (λ w r. (Calm, tt, r))
 
-  pub release_number : {u : List ℕ} → get_or t 0 0 ≡ 114 → t ≡ codes "release " ++ u → Leaves (Field (codes ")\n")) u k → Leaves CallForm s k
+  pub release_number : {u : List ℕ} → slice_get t 0 ≡ Some 114 → t ≡ codes "release " ++ u → Leaves (Field (codes ")\n")) u k → Leaves CallForm s k
   release_number {u} is f l = call_release is (after_numbered (codes "release ") t u k f l)
 
-  pub turn_report : {u : List ℕ} → get_or t 0 0 ≡ 116 → t ≡ codes "turn " ++ u → Leaves ReportForm u k → Leaves CallForm s k
+  pub turn_report : {u : List ℕ} → slice_get t 0 ≡ Some 116 → t ≡ codes "turn " ++ u → Leaves ReportForm u k → Leaves CallForm s k
   turn_report {u} is f l = call_turn is (after_prefix (codes "turn ") report_bytes (λ _. Unit {0}) t u k f l)
 
-  pub call_kind : get_or t 0 0 ≢ 114 → get_or t 0 0 ≢ 116 → get_or t 0 0 ≢ 99 → k ≡ length t → Leaves CallForm s k
-  call_kind release turn calm count = after_open s t k e (leaves_here OrderForm t k 99 _ (Calm, tt, refl) none count)
+  pub call_kind : slice_get t 0 ≢ Some 114 → slice_get t 0 ≢ Some 116 → slice_get t 0 ≢ Some 99 → k ≡ length t → Leaves CallForm s k
+  call_kind release turn calm = of_none order_bytes ValidCall s t k e 99 _ (Calm, tt, refl) none
     where
-      none : (w : List ℕ) → OrderForm w → get_or w 0 0 ≡ get_or t 0 0 → ⊥
-      none w (Release n, v, f) h = release (sym h ∙ ap (λ (x : List ℕ). get_or x 0 0) f)
-      none w (Turn d, v, f) h = turn (sym h ∙ ap (λ (x : List ℕ). get_or x 0 0) f)
-      none w (Calm, v, f) h = calm (sym h ∙ ap (λ (x : List ℕ). get_or x 0 0) f)
+      none : (w : List ℕ) → OrderForm w → slice_get w 0 ≡ slice_get t 0 → ⊥
+      none w (Release n, v, f) h = release (sym h ∙ ap (λ (x : List ℕ). slice_get x 0) f)
+      none w (Turn d, v, f) h = turn (sym h ∙ ap (λ (x : List ℕ). slice_get x 0) f)
+      none w (Calm, v, f) h = calm (sym h ∙ ap (λ (x : List ℕ). slice_get x 0) f)
 
 -- where each part of a call goes out of shape
 pub ruleset call_ends = (at_call, call_release, at_numbered, release_number, call_turn, at_turn, turn_report, call_calm, call_kind)

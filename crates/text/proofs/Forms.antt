@@ -1,6 +1,6 @@
 -- Where a text leaves a form, from where it leaves a part of the form.
 
-use Rattle.std.proofs.Common.{◌≡◌, ℕ, ◌+◌, ◌<◌, ◌⊎◌, ◌≢◌, List, [], ◌∷◌, ◌++◌, length, get_or, take, drop, sym, refl, ap, ◌∙◌, subst, inl, inr, ⊎_elim, append_assoc, append-nil, arith, length-append}
+use Rattle.std.proofs.Common.{◌≡◌, ℕ, ◌+◌, ◌<◌, ◌⊎◌, ◌≢◌, List, [], ◌∷◌, ◌++◌, length, get_or, slice_get, Option, take, drop, sym, refl, ap, ◌∙◌, subst, inl, inr, ⊎_elim, append_assoc, append-nil, arith, length-append}
 use Rattle.std.proofs.lemmas.List.{append_cancel_left, take-append-drop, drop_more}
 use Rattle.text.specs.Words.{Form, Exactly, Leaves}
 
@@ -36,17 +36,31 @@ no_word_inside L p f q z b apart in_f word e =
 pub apart_exactly : (bytes : List ℕ) → Apart (Exactly bytes)
 apart_exactly bytes u v x y p q e = p ∙ sym q
 
-pub leaves_same : (L M : List ℕ → Type 0) (s : List ℕ) (n : ℕ) → ((w : List ℕ) → L w → M w) → ((w : List ℕ) → M w → L w) → Leaves L s n → Leaves M s n
-leaves_same L M s n to from l = record {
+same_head : (p : List ℕ) (c : ℕ) (x y : List ℕ) → slice_get (p ++ c ∷ x) 0 ≡ slice_get (p ++ c ∷ y) 0
+same_head [] c x y = refl
+same_head (a ∷ p) c x y = refl
+
+-- of a form whose words that begin as the text does are those of a part, the text leaves the part where it leaves the form
+pub leaves_by_first : (L M : List ℕ → Type 0) (s : List ℕ) (n : ℕ) → ((w : List ℕ) → L w → M w) → ((w : List ℕ) → M w → slice_get w 0 ≡ slice_get s 0 → L w) → Leaves L s n → Leaves M s n
+leaves_by_first L M s n to only l = record {
   read = l.read;
   unread = l.unread;
   whole = l.whole;
   count = l.count;
   halts = record {
     due = (l.halts.due.0, l.halts.due.1, to _ l.halts.due.2);
-    dead = λ c more w e m. l.halts.dead c more w e (from _ m);
+    dead = λ c rest w e m.
+        let whole : l.read ++ c ∷ rest ≡ s = sym (l.whole ∙ ap (λ (x : List ℕ). l.read ++ x) e) in
+        l.halts.dead c rest w e (only _ m (same_head l.read c w rest ∙ ap (λ (x : List ℕ). slice_get x 0) whole));
   };
 }
+
+pub leaves_same : (L M : List ℕ → Type 0) (s : List ℕ) (n : ℕ) → ((w : List ℕ) → L w → M w) → ((w : List ℕ) → M w → L w) → Leaves L s n → Leaves M s n
+leaves_same L M s n to from l = leaves_by_first L M s n to (λ w m _. from w m) l
+
+-- of a form whose words are of a kind that their first byte tells, the text leaves the kind where it leaves the form
+pub leaves_kind : (M : List ℕ → Type 0) (Kind : Option ℕ → List ℕ → Type 0) → ((w : List ℕ) → M w → Kind (slice_get w 0) w) → (first : Option ℕ) (s : List ℕ) (n : ℕ) → slice_get s 0 ≡ first → ((w : List ℕ) → Kind first w → M w) → Leaves (Kind first) s n → Leaves M s n
+leaves_kind M Kind kind first s n is to l = leaves_by_first (Kind first) M s n to (λ w m h. subst (λ (o : Option ℕ). Kind o w) (h ∙ is) (kind w m)) l
 
 pub leaves_first : (L M : List ℕ → Type 0) (s : List ℕ) (n : ℕ) (m : List ℕ) → Apart L → M m → Leaves L s n → Leaves (Then L M) s n
 leaves_first L M s n m apart in_m l =
@@ -84,29 +98,10 @@ leaves_second L M s u t n apart in_u e l =
       };
     }
 
-same_head : (p : List ℕ) (c : ℕ) (x y : List ℕ) → get_or (p ++ c ∷ x) 0 0 ≡ get_or (p ++ c ∷ y) 0 0
-same_head [] c x y = refl
-same_head (a ∷ p) c x y = refl
-
--- of a form whose words that begin as the text does are those of a part, the text leaves the part where it leaves the form
-pub leaves_by_first : (L M : List ℕ → Type 0) (s : List ℕ) (n : ℕ) → ((w : List ℕ) → L w → M w) → ((w : List ℕ) → M w → get_or w 0 0 ≡ get_or s 0 0 → L w) → Leaves L s n → Leaves M s n
-leaves_by_first L M s n to only l = record {
-  read = l.read;
-  unread = l.unread;
-  whole = l.whole;
-  count = l.count;
-  halts = record {
-    due = (l.halts.due.0, l.halts.due.1, to _ l.halts.due.2);
-    dead = λ c rest w e m.
-        let whole : l.read ++ c ∷ rest ≡ s = sym (l.whole ∙ ap (λ (x : List ℕ). l.read ++ x) e) in
-        l.halts.dead c rest w e (only _ m (same_head l.read c w rest ∙ ap (λ (x : List ℕ). get_or x 0 0) whole));
-  };
-}
-
 -- the very first byte begins no word
-pub leaves_here : (L : List ℕ → Type 0) (s : List ℕ) (n b : ℕ) (z : List ℕ) → L (b ∷ z) → ((w : List ℕ) → L w → get_or w 0 0 ≡ get_or s 0 0 → ⊥) → n ≡ length s → Leaves L s n
+pub leaves_here : (L : List ℕ → Type 0) (s : List ℕ) (n b : ℕ) (z : List ℕ) → L (b ∷ z) → ((w : List ℕ) → L w → slice_get w 0 ≡ slice_get s 0 → ⊥) → n ≡ length s → Leaves L s n
 leaves_here L s n b z word none count =
-    let others : (c : ℕ) (more w : List ℕ) → s ≡ c ∷ more → L (c ∷ w) → ⊥ = λ c more w e m. none (c ∷ w) m (ap (λ (x : List ℕ). get_or x 0 0) (sym e)) in
+    let others : (c : ℕ) (more w : List ℕ) → s ≡ c ∷ more → L (c ∷ w) → ⊥ = λ c more w e m. none (c ∷ w) m (ap (λ (x : List ℕ). slice_get x 0) (sym e)) in
     record { read = []; unread = s; whole = refl; count = sym count; halts = record { due = (b, z, word); dead = others } }
 
 -- the byte at i of the bytes that are due does not come

@@ -1,6 +1,6 @@
 -- The form of a row, taken apart into its words and fields, and where a text leaves it.
 
-use Rattle.std.proofs.Common.{◌≡◌, ℕ, ◌<◌, true, false, eqb, ◌≢◌, List, ◌∷◌, ◌++◌, get_or, codes, decimal, sym, refl, ap, ◌∙◌, subst, append_assoc, lit<}
+use Rattle.std.proofs.Common.{◌≡◌, ℕ, ◌<◌, true, false, eqb, ◌≢◌, List, [], ◌∷◌, ◌++◌, length, get_or, slice_get, Option, codes, decimal, sym, refl, ap, ◌∙◌, subst, append_assoc, lit<}
 use Rattle.stream.specs.declared.Class.{Class}
 use Rattle.stream.specs.declared.Class.TheVariants.{Critical, Background}
 use Rattle.stream.specs.declared.Row.{Row}
@@ -8,7 +8,7 @@ use Rattle.text.specs.Lines.{class_letter, row_bytes, SmallRow}
 use Rattle.std.proofs.lemmas.Bool.{eqb-false}
 use Rattle.text.specs.Reading.{closed}
 use Rattle.text.specs.Words.{Form, Exactly, Small, Leaves, one_of}
-use Rattle.text.proofs.Forms.{Apart, Then, apart_exactly, apart_form, leaves_same, leaves_first, leaves_second, leaves_by_first}
+use Rattle.text.proofs.Forms.{Apart, Then, apart_exactly, apart_form, leaves_same, leaves_first, leaves_second, leaves_by_first, leaves_kind, leaves_here}
 use Rattle.text.proofs.Numerals.{Field, apart_field}
 
 abbrev pub ClassForm : List ℕ → Type 0
@@ -28,9 +28,8 @@ field_then M n close rest s m = record { front = decimal n ++ close; back = rest
 after_exactly : (M : List ℕ → Type 0) (bytes s t : List ℕ) (k : ℕ) → s ≡ bytes ++ t → Leaves M t k → Leaves (Then (Exactly bytes) M) s k
 after_exactly M bytes s t k e l = leaves_second (Exactly bytes) M s bytes t k (apart_exactly bytes) refl e l
 
-after_field : (M : List ℕ → Type 0) (close s t : List ℕ) (n k : ℕ) → get_or close 0 48 < 48 → Small n × (s ≡ closed close n ++ t) → Leaves M t k → Leaves (Then (Field close) M) s k
-after_field M close s t n k low e l =
-    leaves_second (Field close) M s (decimal n ++ close) t k (apart_field close low) (n, e.0, refl) e.1 l
+after_field : {M : List ℕ → Type 0} {s t : List ℕ} {k : ℕ} (close : List ℕ) (n : ℕ) → get_or close 0 48 < 48 → Small n × (s ≡ closed close n ++ t) → Leaves M t k → Leaves (Then (Field close) M) s k
+after_field {M} {s} {t} {k} close n low e l = leaves_second (Field close) M s (decimal n ++ close) t k (apart_field close low) (n, e.0, refl) e.1 l
 
 -- ---- one of two words, which begin apart
 
@@ -38,18 +37,18 @@ abbrev pub OneOf : List ℕ → List ℕ → List ℕ → Type 0
 OneOf one other = Form (one_of one other) (λ _. Unit {0})
 
 module _ (one other s : List ℕ) (k : ℕ) where
-  pub leaves_one : get_or one 0 0 ≢ get_or other 0 0 → get_or s 0 0 ≡ get_or one 0 0 → Leaves (Exactly one) s k → Leaves (OneOf one other) s k
+  pub leaves_one : slice_get one 0 ≢ slice_get other 0 → slice_get s 0 ≡ slice_get one 0 → Leaves (Exactly one) s k → Leaves (OneOf one other) s k
   leaves_one apart first l = leaves_by_first (Exactly one) (OneOf one other) s k (λ w e. (true, tt, e)) only l
     where
-      only : (w : List ℕ) → OneOf one other w → get_or w 0 0 ≡ get_or s 0 0 → Exactly one w
+      only : (w : List ℕ) → OneOf one other w → slice_get w 0 ≡ slice_get s 0 → Exactly one w
       only w (true, u, e) h = e
-      only w (false, u, e) h = absurd (apart (sym first ∙ sym h ∙ ap (λ (x : List ℕ). get_or x 0 0) e))
+      only w (false, u, e) h = absurd (apart (sym first ∙ sym h ∙ ap (λ (x : List ℕ). slice_get x 0) e))
 
-  pub leaves_other : get_or s 0 0 ≢ get_or one 0 0 → Leaves (Exactly other) s k → Leaves (OneOf one other) s k
+  pub leaves_other : slice_get s 0 ≢ slice_get one 0 → Leaves (Exactly other) s k → Leaves (OneOf one other) s k
   leaves_other first l = leaves_by_first (Exactly other) (OneOf one other) s k (λ w e. (false, tt, e)) only l
     where
-      only : (w : List ℕ) → OneOf one other w → get_or w 0 0 ≡ get_or s 0 0 → Exactly other w
-      only w (true, u, e) h = absurd (first (sym h ∙ ap (λ (x : List ℕ). get_or x 0 0) e))
+      only : (w : List ℕ) → OneOf one other w → slice_get w 0 ≡ slice_get s 0 → Exactly other w
+      only w (true, u, e) h = absurd (first (sym h ∙ ap (λ (x : List ℕ). slice_get x 0) e))
       only w (false, u, e) h = e
 
 -- ---- the class
@@ -57,10 +56,6 @@ module _ (one other s : List ℕ) (k : ℕ) where
 -- texts that differ at a place are not the same
 pub differ : {X : Type 0} {s t : List ℕ} (i : ℕ) → s ≡ t → eqb (get_or s i 0) (get_or t i 0) ≡ false → X
 differ i e apart = absurd (eqb-false _ _ apart (ap (λ (l : List ℕ). get_or l i 0) e))
-
--- a text does not begin with two bytes
-pub begins_apart : {X : Type 0} {a b : ℕ} {w x : List ℕ} → w ≡ a ∷ x → get_or w 0 0 ≡ b → eqb a b ≡ false → X
-begins_apart {X} {a} {b} e h apart = absurd (eqb-false a b apart (ap (λ (l : List ℕ). get_or l 0 0) (sym e) ∙ h))
 
 pub same_class : (k l : Class) (x y : List ℕ) → class_letter k ++ x ≡ class_letter l ++ y → (k ≡ l) × (x ≡ y)
 same_class Critical Critical x y e = (refl, (cc))
@@ -103,6 +98,18 @@ module _ {V : Type 0} (pre : List ℕ) (bytes : V → List ℕ) (Good : V → Ty
       leaves_same (Then (Exactly pre) (Form bytes Good)) (Form (λ v. pre ++ bytes v) Good) s k prefix_joined prefix_parts
       (after_exactly (Form bytes Good) pre s t k e l)
 
+-- ---- a bracket, and then an item whose first byte tells its kind
+
+module _ {V : Type 0} (item : V → List ℕ) (Good : V → Type 0) (s t : List ℕ) (k : ℕ) (e : s ≡ codes "(" ++ t) where
+  after_bracket : Leaves (Form item Good) t k → Leaves (Form (λ v. codes "(" ++ item v) Good) s k
+  after_bracket l = after_prefix (codes "(") item Good s t k e l
+
+  pub of_kind : (Kind : Option ℕ → List ℕ → Type 0) → ((w : List ℕ) → Form item Good w → Kind (slice_get w 0) w) → (first : Option ℕ) → ((w : List ℕ) → Kind first w → Form item Good w) → slice_get t 0 ≡ first → Leaves (Kind first) t k → Leaves (Form (λ v. codes "(" ++ item v) Good) s k
+  of_kind Kind kind first to is l = after_bracket (leaves_kind (Form item Good) Kind kind first t k is to l)
+
+  pub of_none : (b : ℕ) (w : List ℕ) → Form item Good (b ∷ w) → ((w : List ℕ) → Form item Good w → slice_get w 0 ≡ slice_get t 0 → ⊥) → k ≡ length t → Leaves (Form (λ v. codes "(" ++ item v) Good) s k
+  of_none b w some none count = after_bracket (leaves_here (Form item Good) t k b w some none count)
+
 -- ---- the row, up to the bytes that close it
 
 -- each part of a row can be completed
@@ -113,23 +120,33 @@ unfield : (M : List ℕ → Type 0) (close w : List ℕ) → Then (Field close) 
 unfield M close w t =
     (t.in_front.0, t.back, t.in_front.1, t.in_back, t.joined ∙ ap (λ (x : List ℕ). x ++ t.back) t.in_front.2 ∙ append_assoc (decimal t.in_front.0) close t.back)
 
-at_field : (M : List ℕ → Type 0) (close s : List ℕ) (k : ℕ) → get_or close 0 48 < 48 → (w : List ℕ) × M w → Leaves (Field close) s k → Leaves (Then (Field close) M) s k
-at_field M close s k low w l = leaves_first (Field close) M s k w.0 (apart_field close low) w.1 l
+-- numbers, each closed by bytes of its own, and a last one
+abbrev pub Numbers : List (List ℕ) → List ℕ → List ℕ → Type 0
+Numbers [] last = Field last
+Numbers (close ∷ closes) last = Then (Field close) (Numbers closes last)
 
-abbrev pub FromDeadline : List ℕ → List ℕ → Type 0
-FromDeadline close = Then (Field (codes ") ")) (Field close)
+some_numbers : (closes : List (List ℕ)) (last : List ℕ) → (w : List ℕ) × Numbers closes last w
+some_numbers [] last = (_, (0, zero_small, refl))
+some_numbers (close ∷ closes) last = (_, field_then (Numbers closes last) 0 close _ zero_small (some_numbers closes last).1)
 
-abbrev pub FromShort : List ℕ → List ℕ → Type 0
-FromShort close = Then (Field (codes " ")) (FromDeadline close)
+at_field : {s : List ℕ} {k : ℕ} (close : List ℕ) (closes : List (List ℕ)) (last : List ℕ) → get_or close 0 48 < 48 → Leaves (Field close) s k → Leaves (Numbers (close ∷ closes) last) s k
+at_field {s} {k} close closes last low l = leaves_first (Field close) (Numbers closes last) s k _ (apart_field close low) (some_numbers closes last).1 l
 
-abbrev pub FromCertain : List ℕ → List ℕ → Type 0
-FromCertain close = Then (Field (codes ") (")) (FromShort close)
+-- what closes the numbers of a row from its budget on, from the next on, and so on
+abbrev from_deadline : List (List ℕ)
+from_deadline = codes ") " ∷ []
 
-abbrev pub FromBudget : List ℕ → List ℕ → Type 0
-FromBudget close = Then (Field (codes " ")) (FromCertain close)
+abbrev from_short : List (List ℕ)
+from_short = codes " " ∷ from_deadline
+
+abbrev from_certain : List (List ℕ)
+from_certain = codes ") (" ∷ from_short
+
+abbrev from_budget : List (List ℕ)
+from_budget = codes " " ∷ from_certain
 
 abbrev pub FromBracket : List ℕ → List ℕ → Type 0
-FromBracket close = Then (Exactly (codes " (")) (FromBudget close)
+FromBracket close = Then (Exactly (codes " (")) (Numbers from_budget close)
 
 abbrev pub FromClass : List ℕ → List ℕ → Type 0
 FromClass close = Then ClassForm (FromBracket close)
@@ -142,10 +159,10 @@ module _ (close : List ℕ) where
         front = class_letter r.class;
         back = _;
         in_front = (r.class, tt, refl);
-        in_back = exactly_then (FromBudget close) (codes " (") _
-            (field_then (FromCertain close) r.budget (codes " ") _ s.0
-            (field_then (FromShort close) r.certain (codes ") (") _ s.1
-            (field_then (FromDeadline close) r.short (codes " ") _ s.2
+        in_back = exactly_then (Numbers from_budget close) (codes " (") _
+            (field_then (Numbers from_certain close) r.budget (codes " ") _ s.0
+            (field_then (Numbers from_short close) r.certain (codes ") (") _ s.1
+            (field_then (Numbers from_deadline close) r.short (codes " ") _ s.2
             (field_then (Field close) r.deadline (codes ") ") _ s.3
             (r.gap, s.4, refl)))));
         joined = refl;
@@ -154,9 +171,9 @@ module _ (close : List ℕ) where
   row_joined : (w : List ℕ) → FromClass close w → RowForm close w
   row_joined w class =
       let bracket = class.in_back in
-      let budget = unfield (FromCertain close) (codes " ") _ bracket.in_back in
-      let certain = unfield (FromShort close) (codes ") (") _ budget.3 in
-      let short = unfield (FromDeadline close) (codes " ") _ certain.3 in
+      let budget = unfield (Numbers from_certain close) (codes " ") _ bracket.in_back in
+      let certain = unfield (Numbers from_short close) (codes ") (") _ budget.3 in
+      let short = unfield (Numbers from_deadline close) (codes " ") _ certain.3 in
       let deadline = unfield (Field close) (codes ") ") _ short.3 in
       let gap = deadline.3 in
       let r : Row = record { class = class.in_front.0; budget = budget.0; certain = certain.0; short = short.0; deadline = deadline.0; gap = gap.0 } in
@@ -172,23 +189,8 @@ module _ (close : List ℕ) where
   leaves_row : (s : List ℕ) (k : ℕ) → Leaves (FromClass close) s k → Leaves (RowForm close) s k
   leaves_row s k l = leaves_same (FromClass close) (RowForm close) s k row_joined row_parts l
 
-  some_gap : (w : List ℕ) × Field close w
-  some_gap = (_, (0, zero_small, refl))
-
-  some_deadline : (w : List ℕ) × FromDeadline close w
-  some_deadline = (_, field_then (Field close) 0 (codes ") ") _ zero_small some_gap.1)
-
-  some_short : (w : List ℕ) × FromShort close w
-  some_short = (_, field_then (FromDeadline close) 0 (codes " ") _ zero_small some_deadline.1)
-
-  some_certain : (w : List ℕ) × FromCertain close w
-  some_certain = (_, field_then (FromShort close) 0 (codes ") (") _ zero_small some_short.1)
-
-  some_budget : (w : List ℕ) × FromBudget close w
-  some_budget = (_, field_then (FromCertain close) 0 (codes " ") _ zero_small some_certain.1)
-
   some_bracket : (w : List ℕ) × FromBracket close w
-  some_bracket = (_, exactly_then (FromBudget close) (codes " (") _ some_budget.1)
+  some_bracket = (_, exactly_then (Numbers from_budget close) (codes " (") _ (some_numbers from_budget close).1)
 
   pub at_class : (s : List ℕ) (k : ℕ) → Leaves ClassForm s k → Leaves (RowForm close) s k
   at_class s k l = leaves_row s k (leaves_first ClassForm (FromBracket close) s k some_bracket.0 apart_class some_bracket.1 l)
@@ -197,35 +199,27 @@ module _ (close : List ℕ) where
   after_class class s u k f l = leaves_row s k (leaves_second ClassForm (FromBracket close) s (class_letter class) u k apart_class (class, tt, refl) f.1 l)
 
   pub at_bracket : (class : Class) (s u : List ℕ) (k : ℕ) → Unit {0} × (s ≡ class_letter class ++ u) → Leaves (Exactly (codes " (")) u k → Leaves (RowForm close) s k
-  at_bracket class s u k f l = after_class class s u k f (leaves_first (Exactly (codes " (")) (FromBudget close) u k some_budget.0 (apart_exactly _) some_budget.1 l)
+  at_bracket class s u k f l = after_class class s u k f (leaves_first (Exactly (codes " (")) (Numbers from_budget close) u k _ (apart_exactly _) (some_numbers from_budget close).1 l)
 
   module _ (class : Class) {s u v : List ℕ} (f : Unit {0} × (s ≡ class_letter class ++ u)) (g : u ≡ codes " (" ++ v) where
-    after_bracket : (k : ℕ) → Leaves (FromBudget close) v k → Leaves (RowForm close) s k
-    after_bracket k l = after_class class s u k f (after_exactly (FromBudget close) (codes " (") u v k g l)
+    after_opening : (k : ℕ) → Leaves (Numbers from_budget close) v k → Leaves (RowForm close) s k
+    after_opening k l = after_class class s u k f (after_exactly (Numbers from_budget close) (codes " (") u v k g l)
 
+    -- one number after another
     pub at_budget : (k : ℕ) → Leaves (Field (codes " ")) v k → Leaves (RowForm close) s k
-    at_budget k l = after_bracket k (at_field (FromCertain close) (codes " ") v k (lit< tt) some_certain l)
+    at_budget k l = after_opening k (at_field (codes " ") from_certain close (lit< tt) l)
 
     module _ {budget : ℕ} {w : List ℕ} (b : Small budget × (v ≡ closed (codes " ") budget ++ w)) where
-      after_budget : (k : ℕ) → Leaves (FromCertain close) w k → Leaves (RowForm close) s k
-      after_budget k l = after_bracket k (after_field (FromCertain close) (codes " ") v w budget k (lit< tt) b l)
-
       pub at_certain : (k : ℕ) → Leaves (Field (codes ") (")) w k → Leaves (RowForm close) s k
-      at_certain k l = after_budget k (at_field (FromShort close) (codes ") (") w k (lit< tt) some_short l)
+      at_certain k l = after_opening k (after_field (codes " ") budget (lit< tt) b (at_field (codes ") (") from_short close (lit< tt) l))
 
       module _ {certain : ℕ} {x : List ℕ} (c : Small certain × (w ≡ closed (codes ") (") certain ++ x)) where
-        after_certain : (k : ℕ) → Leaves (FromShort close) x k → Leaves (RowForm close) s k
-        after_certain k l = after_budget k (after_field (FromShort close) (codes ") (") w x certain k (lit< tt) c l)
-
         pub at_short : (k : ℕ) → Leaves (Field (codes " ")) x k → Leaves (RowForm close) s k
-        at_short k l = after_certain k (at_field (FromDeadline close) (codes " ") x k (lit< tt) some_deadline l)
+        at_short k l = after_opening k (after_field (codes " ") budget (lit< tt) b (after_field (codes ") (") certain (lit< tt) c (at_field (codes " ") from_deadline close (lit< tt) l)))
 
         module _ {short : ℕ} {y : List ℕ} (h : Small short × (x ≡ closed (codes " ") short ++ y)) where
-          after_short : (k : ℕ) → Leaves (FromDeadline close) y k → Leaves (RowForm close) s k
-          after_short k l = after_certain k (after_field (FromDeadline close) (codes " ") x y short k (lit< tt) h l)
-
           pub at_deadline : (k : ℕ) → Leaves (Field (codes ") ")) y k → Leaves (RowForm close) s k
-          at_deadline k l = after_short k (at_field (Field close) (codes ") ") y k (lit< tt) some_gap l)
+          at_deadline k l = after_opening k (after_field (codes " ") budget (lit< tt) b (after_field (codes ") (") certain (lit< tt) c (after_field (codes " ") short (lit< tt) h (at_field (codes ") ") [] close (lit< tt) l))))
 
           pub at_gap : {deadline : ℕ} {z : List ℕ} → Small deadline × (y ≡ closed (codes ") ") deadline ++ z) → (k : ℕ) → Leaves (Field close) z k → Leaves (RowForm close) s k
-          at_gap {deadline} {z} d k l = after_short k (after_field (Field close) (codes ") ") y z deadline k (lit< tt) d l)
+          at_gap {deadline} d k l = after_opening k (after_field (codes " ") budget (lit< tt) b (after_field (codes ") (") certain (lit< tt) c (after_field (codes " ") short (lit< tt) h (after_field (codes ") ") deadline (lit< tt) d l))))

@@ -1,14 +1,14 @@
 -- The form of a line: one bracket, and then one of the kinds, which begin apart.
 
-use Rattle.std.proofs.Common.{◌≡◌, ℕ, List, [], ◌++◌, ◌≢◌, length, get_or, codes, decimal, sym, refl, ap, ◌∙◌, lit<}
+use Rattle.std.proofs.Common.{◌≡◌, ℕ, List, [], ◌++◌, ◌≢◌, length, slice_get, Option, Some, None, cond, eqb, subst, codes, decimal, sym, refl, ap, ◌∙◌, lit<}
 use Rattle.stream.specs.declared.Class.TheVariants.{Critical}
 use Rattle.stream.specs.declared.Row.{Row}
 use Rattle.text.specs.declared.line.Line.TheVariants.{Sporadic, Raster, Go}
 use Rattle.text.specs.Lines.{row_bytes, sporadic_bytes, phased_bytes, raster_bytes, item_bytes, SmallRow, SmallPhased, Valid, LineForm}
 use Rattle.text.specs.Reading.{closed}
 use Rattle.text.specs.Words.{Form, Exactly, Small, Leaves, numbered}
-use Rattle.text.proofs.Forms.{Then, leaves_same, leaves_first, leaves_second, leaves_by_first, leaves_here}
-use Rattle.text.proofs.Grammar.{RowForm, begins_apart, zero_small, at_prefix, after_prefix}
+use Rattle.text.proofs.Forms.{Then, leaves_same, leaves_first, leaves_second}
+use Rattle.text.proofs.Grammar.{RowForm, zero_small, at_prefix, after_prefix, of_kind, of_none}
 use Rattle.text.proofs.Numerals.{Field}
 use Rattle.text.proofs.Unique.{apart_row}
 
@@ -64,55 +64,46 @@ ItemForm = Form item_bytes Valid
 pub at_line : (s : List ℕ) (k : ℕ) → Leaves (Exactly (codes "(")) s k → Leaves LineForm s k
 at_line s k l = at_prefix (codes "(") item_bytes Valid s k (Go 0) zero_small l
 
-after_open : (s t : List ℕ) (k : ℕ) → s ≡ codes "(" ++ t → Leaves ItemForm t k → Leaves LineForm s k
-after_open s t k e l = after_prefix (codes "(") item_bytes Valid s t k e l
-
 -- the first byte tells the kind
+abbrev ItemKind : Option ℕ → List ℕ → Type 0
+ItemKind None = λ w. ⊥
+ItemKind (Some b) = cond (eqb b 83) SporadicForm (cond (eqb b 82) RasterForm (cond (eqb b 103) MomentForm (λ w. ⊥)))
+
+item_kind : (w : List ℕ) → ItemForm w → ItemKind (slice_get w 0) w
+item_kind w (Sporadic r, v, f) = subst (λ (x : List ℕ). ItemKind (slice_get x 0) x) (sym f) (r, v, refl)
+item_kind w (Raster r p, v, f) = subst (λ (x : List ℕ). ItemKind (slice_get x 0) x) (sym f) ((r, p), v, refl)
+item_kind w (Go m, v, f) = subst (λ (x : List ℕ). ItemKind (slice_get x 0) x) (sym f) (m, v, refl)
+
 module _ (s t : List ℕ) (k : ℕ) (e : s ≡ codes "(" ++ t) where
-  pub line_sporadic : get_or t 0 0 ≡ 83 → Leaves SporadicForm t k → Leaves LineForm s k
-  line_sporadic is l = after_open s t k e (leaves_by_first SporadicForm ItemForm t k (λ w r. (Sporadic r.0, r.1, r.2)) only l)
-    where
-      only : (w : List ℕ) → ItemForm w → get_or w 0 0 ≡ get_or t 0 0 → SporadicForm w
-      only w (Sporadic r, v, f) h = (r, v, f)
-      only w (Raster r p, v, f) h = begins_apart f (h ∙ is) refl
-      only w (Go m, v, f) h = begins_apart f (h ∙ is) refl
+  pub line_sporadic : slice_get t 0 ≡ Some 83 → Leaves SporadicForm t k → Leaves LineForm s k
+  line_sporadic = of_kind item_bytes Valid s t k e ItemKind item_kind _ (λ w r. (Sporadic r.0, r.1, r.2))
 
-  pub line_raster : get_or t 0 0 ≡ 82 → Leaves RasterForm t k → Leaves LineForm s k
-  line_raster is l = after_open s t k e (leaves_by_first RasterForm ItemForm t k (λ w r. (Raster r.0.0 r.0.1, r.1, r.2)) only l)
-    where
-      only : (w : List ℕ) → ItemForm w → get_or w 0 0 ≡ get_or t 0 0 → RasterForm w
-      only w (Sporadic r, v, f) h = begins_apart f (h ∙ is) refl
-      only w (Raster r p, v, f) h = ((r, p), v, f)
-      only w (Go m, v, f) h = begins_apart f (h ∙ is) refl
+  pub line_raster : slice_get t 0 ≡ Some 82 → Leaves RasterForm t k → Leaves LineForm s k
+  line_raster = of_kind item_bytes Valid s t k e ItemKind item_kind _ (λ w r. (Raster r.0.0 r.0.1, r.1, r.2))
 
-  pub line_moment : get_or t 0 0 ≡ 103 → Leaves MomentForm t k → Leaves LineForm s k
-  line_moment is l = after_open s t k e (leaves_by_first MomentForm ItemForm t k (λ w r. (Go r.0, r.1, r.2)) only l)
-    where
-      only : (w : List ℕ) → ItemForm w → get_or w 0 0 ≡ get_or t 0 0 → MomentForm w
-      only w (Sporadic r, v, f) h = begins_apart f (h ∙ is) refl
-      only w (Raster r p, v, f) h = begins_apart f (h ∙ is) refl
-      only w (Go m, v, f) h = (m, v, f)
+  pub line_moment : slice_get t 0 ≡ Some 103 → Leaves MomentForm t k → Leaves LineForm s k
+  line_moment = of_kind item_bytes Valid s t k e ItemKind item_kind _ (λ w r. (Go r.0, r.1, r.2))
 
-  pub sporadic_row : {u : List ℕ} → get_or t 0 0 ≡ 83 → t ≡ codes "S " ++ u → Leaves (RowForm (codes ")\n")) u k → Leaves LineForm s k
+  pub sporadic_row : {u : List ℕ} → slice_get t 0 ≡ Some 83 → t ≡ codes "S " ++ u → Leaves (RowForm (codes ")\n")) u k → Leaves LineForm s k
   sporadic_row {u} is f l = line_sporadic is (after_prefix (codes "S ") (row_bytes (codes ")\n")) SmallRow t u k f l)
 
-  pub raster_row : {u : List ℕ} → get_or t 0 0 ≡ 82 → t ≡ codes "R " ++ u → Leaves (RowForm (codes " ")) u k → Leaves LineForm s k
+  pub raster_row : {u : List ℕ} → slice_get t 0 ≡ Some 82 → t ≡ codes "R " ++ u → Leaves (RowForm (codes " ")) u k → Leaves LineForm s k
   raster_row {u} is f l = line_raster is (after_raster t u k f (leaves_first (RowForm (codes " ")) (Field (codes ")\n")) u k _ (apart_row 32 [] (lit< tt)) (0, zero_small, refl) l))
 
-  pub raster_phase : {u v : List ℕ} → get_or t 0 0 ≡ 82 → t ≡ codes "R " ++ u → (r : Row) → SmallRow r × (u ≡ row_bytes (codes " ") r ++ v) → Leaves (Field (codes ")\n")) v k → Leaves LineForm s k
+  pub raster_phase : {u v : List ℕ} → slice_get t 0 ≡ Some 82 → t ≡ codes "R " ++ u → (r : Row) → SmallRow r × (u ≡ row_bytes (codes " ") r ++ v) → Leaves (Field (codes ")\n")) v k → Leaves LineForm s k
   raster_phase {u} {v} is f r g l =
       line_raster is (after_raster t u k f (leaves_second (RowForm (codes " ")) (Field (codes ")\n")) u (row_bytes (codes " ") r) v k (apart_row 32 [] (lit< tt)) (r, g.0, refl) g.1 l))
 
-  pub moment_number : {u : List ℕ} → get_or t 0 0 ≡ 103 → t ≡ codes "go " ++ u → Leaves (Field (codes ")\n")) u k → Leaves LineForm s k
+  pub moment_number : {u : List ℕ} → slice_get t 0 ≡ Some 103 → t ≡ codes "go " ++ u → Leaves (Field (codes ")\n")) u k → Leaves LineForm s k
   moment_number {u} is f l = line_moment is (after_numbered (codes "go ") t u k f l)
 
-  pub line_kind : get_or t 0 0 ≢ 83 → get_or t 0 0 ≢ 82 → get_or t 0 0 ≢ 103 → k ≡ length t → Leaves LineForm s k
-  line_kind sporadic raster moment count = after_open s t k e (leaves_here ItemForm t k 103 _ (Go 0, zero_small, refl) none count)
+  pub line_kind : slice_get t 0 ≢ Some 83 → slice_get t 0 ≢ Some 82 → slice_get t 0 ≢ Some 103 → k ≡ length t → Leaves LineForm s k
+  line_kind sporadic raster moment = of_none item_bytes Valid s t k e 103 _ (Go 0, zero_small, refl) none
     where
-      none : (w : List ℕ) → ItemForm w → get_or w 0 0 ≡ get_or t 0 0 → ⊥
-      none w (Sporadic r, v, f) h = sporadic (sym h ∙ ap (λ (x : List ℕ). get_or x 0 0) f)
-      none w (Raster r p, v, f) h = raster (sym h ∙ ap (λ (x : List ℕ). get_or x 0 0) f)
-      none w (Go m, v, f) h = moment (sym h ∙ ap (λ (x : List ℕ). get_or x 0 0) f)
+      none : (w : List ℕ) → ItemForm w → slice_get w 0 ≡ slice_get t 0 → ⊥
+      none w (Sporadic r, v, f) h = sporadic (sym h ∙ ap (λ (x : List ℕ). slice_get x 0) f)
+      none w (Raster r p, v, f) h = raster (sym h ∙ ap (λ (x : List ℕ). slice_get x 0) f)
+      none w (Go m, v, f) h = moment (sym h ∙ ap (λ (x : List ℕ). slice_get x 0) f)
 
 -- where each part of a line goes out of shape
 pub ruleset line_ends = (at_line, line_sporadic, at_sporadic, sporadic_row, line_raster, at_raster, raster_row, line_moment, at_numbered, moment_number, line_kind)

@@ -1,7 +1,9 @@
 -- Digits at the front of a text, the number that they write, and where a text leaves the form of a number.
 
-use Rattle.std.proofs.Common.{◌≡◌, ℕ, zero, suc, ◌+◌, ◌-◌, ◌*◌, ◌^◌, ◌<◌, ◌≤◌, ◌⊎◌, ◌≢◌, min, true, false, List, [], ◌∷◌, ◌++◌, length, get_or, take, drop, decimal, sym, refl, ap, ◌∙◌, subst, inl, inr, ⊎_elim, append_assoc, add-zero, add-one, arith, lit<, lit≤, length-append}
+use Rattle.std.proofs.Common.{◌≡◌, ℕ, zero, suc, ◌+◌, ◌-◌, ◌*◌, ◌^◌, ◌<◌, ◌≤◌, ◌⊎◌, ◌≢◌, min, true, false, List, [], ◌∷◌, ◌++◌, length, get_or, Option, take, drop, decimal, sym, refl, ap, ◌∙◌, subst, inl, inr, ⊎_elim, append_assoc, add-zero, add-one, arith, lit<, lit≤, length-append}
 use Rattle.std.proofs.lemmas.Fmt.{digits_decimal, decimal-digits_value, decimal_digit, decimal_nonempty, first_decimal, length-decimal-le, decimal_injective}
+use Rattle.std.proofs.lemmas.Option.{unwrap_or-slice_get}
+use Rattle.std.specs.Option.{unwrap_or}
 use Rattle.std.proofs.lemmas.Int.Digits.{digits_more, digits_value_more}
 use Rattle.std.proofs.lemmas.List.{length-take-le, get_or_past, get_or-take, get_or-drop, take-append-drop}
 use Rattle.std.proofs.lemmas.Str.Parse.{IsNumeralModel, digits_value-take-le, digits_value_short, numerals_by_value, tells_digits, digit_at, digit_from_value}
@@ -203,4 +205,4 @@ first_digit n s w x e = subst (λ (v : List ℕ). IsInRange 48 57 (get_or v 0 0)
 pub leaves_number : (close s : List ℕ) (left : ℕ) → (IsInRange 48 57 (get_or s 0 0) → ⊥) → left ≡ length s → Leaves (Field close) s left
 leaves_number close s left none count =
     leaves_here (Field close) s left 48 close (0, lit< tt, ap (λ (w : List ℕ). w ++ close) (sym (decimal_digit 0 (lit< tt))))
-    (λ w m h. none (subst (λ (x : ℕ). IsInRange 48 57 x) h (first_digit m.0 m.1 w close m.2))) count
+    (λ w m h. none (subst (λ (x : ℕ). IsInRange 48 57 x) (sym (unwrap_or-slice_get w 0 0) ∙ ap (λ (o : Option ℕ). unwrap_or o 0) h ∙ unwrap_or-slice_get s 0 0) (first_digit m.0 m.1 w close m.2))) count

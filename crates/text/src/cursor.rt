@@ -1,6 +1,6 @@
 // Reading the parts of a line, byte by byte.
 
-ghost use Rattle.std.specs.Prelude.{◌≡◌, ℕ, ◌<◌, ◌≤◌, List, [], ◌∷◌, ◌++◌, length, MatchResult, ◌≢◌, slice_index_or};
+ghost use Rattle.std.specs.Prelude.{◌≡◌, ℕ, ◌<◌, ◌≤◌, List, [], ◌∷◌, ◌++◌, length, MatchResult, ◌≢◌, slice_get, slice_index_or};
 ghost use Rattle.std.specs.Str.Parse.{AllDigits, digits_value};
 ghost use Rattle.std.specs.Float.Numeral.{digits_len};
 ghost use Rattle.std.specs.Int.{IsInRange};
@@ -25,13 +25,6 @@ pub struct Misfit {
     pub left: usize,
 }
 
-// The first byte, or 0 where there is none.
-fn head(text: &[u8]) -> char
-    ensures { result ≡ slice_index_or text.now 0 0 }
-{
-    char::from(text.first().copied().unwrap_or(0))
-}
-
 // How many digits stand at the front of the text.
 fn digits_len(text: &[u8]) -> usize
     ensures { result ≡ digits_len text.now }
@@ -44,7 +37,10 @@ fn digits_len(text: &[u8]) -> usize
 fn numeral_len(text: &[u8]) -> usize
     ensures { Numeral text.now result }
 {
-    let most = if head(text) == '0' { 1 } else { MOST_DIGITS };
+    let most = match text.first() {
+        Some(b'0') => 1,
+        _ => MOST_DIGITS,
+    };
     digits_len(text).min(most)
 }
 
@@ -89,10 +85,10 @@ impl<'a> Cursor<'a> {
     // Whether one word comes, or else the other. They begin apart.
     #[tactic(auto, using(crate::proofs::Grammar::leaves_other))]
     fn either(&mut self, one: &[u8], other: &[u8]) -> Result<bool, Misfit>
-        requires { slice_index_or one.now 0 0 ≢ slice_index_or other.now 0 0 }
+        requires { slice_get one.now 0 ≢ slice_get other.now 0 }
         ensures { Reads (one_of one.now other.now) (λ _. Unit {0}) (ahead self.old) result (ahead self.new) }
     {
-        if head(self.rest) == head(one) {
+        if self.rest.first() == one.first() {
             self.word(one)?;
             Ok(true)
         } else {

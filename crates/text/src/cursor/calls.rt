@@ -5,7 +5,7 @@ ghost use Rattle.text.specs.Calls.{report_bytes, call_bytes, ValidCall};
 ghost use Rattle.text.specs.Reading.{ahead, Reads};
 
 use crate::call::Call;
-use crate::cursor::{Cursor, Misfit, head};
+use crate::cursor::{Cursor, Misfit};
 use crate::from_line::FromLine;
 
 impl<'a> Cursor<'a> {
@@ -21,16 +21,16 @@ impl<'a> Cursor<'a> {
         ensures { Reads call_bytes ValidCall (ahead self.old) result (ahead self.new) }
     {
         self.word(b"(")?;
-        match head(self.rest) {
-            'r' => {
+        match self.rest.first() {
+            Some(b'r') => {
                 self.word(b"release ")?;
                 Ok(Call::Release(self.number(b")\n")?))
             }
-            't' => {
+            Some(b't') => {
                 self.word(b"turn ")?;
                 Ok(Call::Turn(self.report()?))
             }
-            'c' => {
+            Some(b'c') => {
                 self.word(b"calm)\n")?;
                 Ok(Call::Calm)
             }

@@ -5,7 +5,7 @@ ghost use Rattle.std.proofs.Common.{rules};
 ghost use Rattle.text.specs.Lines.{class_letter, row_bytes, render, SmallRow, Valid};
 ghost use Rattle.text.specs.Reading.{ahead, Reads};
 
-use crate::cursor::{Cursor, Misfit, head};
+use crate::cursor::{Cursor, Misfit};
 use crate::from_line::FromLine;
 use crate::line::Line;
 use stream::{Class, Row};
@@ -49,18 +49,18 @@ impl<'a> Cursor<'a> {
         ensures { Reads render Valid (ahead self.old) result (ahead self.new) }
     {
         self.word(b"(")?;
-        match head(self.rest) {
-            'S' => {
+        match self.rest.first() {
+            Some(b'S') => {
                 self.word(b"S ")?;
                 Ok(Line::Sporadic(self.row(b")\n")?))
             }
-            'R' => {
+            Some(b'R') => {
                 self.word(b"R ")?;
                 let row = self.row(b" ")?;
                 let phase = self.number(b")\n")?;
                 Ok(Line::Raster(row, phase))
             }
-            'g' => {
+            Some(b'g') => {
                 self.word(b"go ")?;
                 Ok(Line::Go(self.number(b")\n")?))
             }

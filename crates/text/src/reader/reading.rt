@@ -38,7 +38,8 @@ impl<'a> Reader<'a> {
         }
     }
 
-    fn out_of_shape(&self, byte: u64) -> Fault
+    // Where the next line is out of shape, at a byte of it from 1.
+    pub fn out_of_shape(&self, byte: u64) -> Fault
         ensures { result ≡ out_of_shape (line_number self.now) byte }
     {
         Fault {
