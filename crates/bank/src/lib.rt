@@ -29,16 +29,18 @@ const LATEST: i64 = 1000000;
 // The most consecutive moments that a bank is asked about: those from 0 to the last m.
 const MOMENTS: u64 = 1000001;
 
-// Reads a signed m, so that no kind has to compute with signs.
-pub fn ask(m: i64) -> Question
-    ensures { result ≡ asked m }
-{
-    if m < EARLIEST || m > LATEST {
-        Question::Outside
-    } else if m < 0 {
-        Question::Before
-    } else {
-        Question::At(m as u64)
+// A signed m is read once, so that no kind has to compute with signs.
+impl From<i64> for Question {
+    ghost from_gives = { λ m question. question ≡ asked m };
+
+    fn from(m: i64) -> Question {
+        if m < EARLIEST || m > LATEST {
+            Question::Outside
+        } else if m < 0 {
+            Question::Before
+        } else {
+            Question::At(m as u64)
+        }
     }
 }
 

@@ -8,7 +8,7 @@ mod runs;
 
 #[cfg(test)]
 mod tests {
-    use crate::plans::{LOCK, PREVIEW, bank_of_two};
+    use crate::plans::bank_of_two;
     use bank::{Bank, most_accepted};
     use demand::{admit, demand_at, load, sporadic_share};
     use join::Joined;
@@ -17,9 +17,10 @@ mod tests {
     use server::replay;
     use std::alloc::Global;
     use std::test::Fail;
-    use stream::{Phase, Point, Record, Refusal};
+    use stream::{MOST_STREAMS, Phase, Point, Record, Refusal};
     use table::{Raster, Shortfall, Sporadic};
     use text::{Answer, Reader};
+    use worked::{LOCK, PREVIEW};
 
     #[test]
     fn demands_at_each_length(rt: HostRuntime) -> Result<(), Fail> {
@@ -111,10 +112,6 @@ mod tests {
             ("(R H (2 4) (2 6) 6 6)\n(go 0)\n", "(refused 8 P (1 0))\n"),
             ("(R H (2 4) (7 6) 6 6)\n(go 0)\n", "(refused 7 P (1 0))\n"),
             ("(R H (2 4) (2 6) 6)\n(go 0)\n", "(refused 1 T (1 19))\n"),
-            (
-                "(S H (2 4) (2 6) 6)\n(R L (3 0) (6 6) 6 5)\n(go 0)\n",
-                "(accepted 6 7 (normal 2 0))\n(total 0 0 0 0 0)\n",
-            ),
             (
                 "(S L (1 0) (2 2) 2)\n(go 1000000000000)\n",
                 "(accepted 2 3 (normal 1 1))\n(total 0 0 0 0 0)\n",
@@ -264,7 +261,7 @@ mod tests {
 
     fn full_table(heap: Global) -> Result<Sporadic, Fail> {
         let mut bank = Sporadic::new(heap)?;
-        for _ in 0..32 {
+        for _ in 0..MOST_STREAMS {
             bank.grow(Record::new(PREVIEW)?)?;
         }
         Ok(bank)

@@ -7,10 +7,10 @@ ghost use Rattle.join.specs.Joins.{joined, place};
 ghost use Rattle.join.specs.JoinsLemmas.{joined_lawful};
 
 use bank::Bank;
-use stream::{Record, Refusal};
+use stream::{MOST_STREAMS, Record, Refusal};
 
-// No bank has more streams than this.
-const MOST: u64 = 33;
+// No bank has more streams than this: one more than are ever admitted, so that too many are seen.
+const MOST: u64 = MOST_STREAMS as u64 + 1;
 
 // Which part has a stream, and the stream's number in that part.
 #[derive(Clone, Copy)]
@@ -70,8 +70,7 @@ impl<L: Bank, R: Bank> Bank for Joined<L, R> {
     ghost lawful = { joined_lawful L.Bank.kind R.Bank.kind L.Bank.lawful R.Bank.lawful };
 
     fn streams(&self) -> u64 {
-        let all = self.left.streams() + self.right.streams();
-        if all <= MOST { all } else { MOST }
+        (self.left.streams() + self.right.streams()).min(MOST)
     }
 
     // This and the next three ask one question of two types of bank; a function of them would take two closures each time.

@@ -50,7 +50,7 @@ impl Ranked for Point {
     }
 }
 
-// Not said once for every `Ord`: who ranks items of another type would then owe an `Ord` of it.
+// Not one impl for every `X: Ord`: it would leave a type that has an `Ord` no other order to be ranked in.
 impl Ranked for (u64, u64) {
     ghost below = { pair_below };
 

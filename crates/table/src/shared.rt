@@ -2,28 +2,40 @@
 
 ghost use Rattle.std.specs.Prelude.{◌≡◌, ◌<◌, ◌≤◌, [], ◌∷◌, ◌++◌, map, length, position, IfOk, IfSome, Some, None, vec_capacity, slice_set};
 ghost use Rattle.bank.specs.Accepting.{Accepted};
-ghost use Rattle.bank.specs.Questions.{asked, counted, told};
+ghost use Rattle.bank.specs.Questions.{asked, told};
 ghost use Rattle.std.specs.Option.{option_map};
 ghost use Rattle.std.specs.List.{slice_get};
 ghost use Rattle.std.specs.Result.{result_err};
 ghost use Rattle.table.specs.Shortening.{AllShortened, first_short, too_short};
 ghost use Rattle.table.specs.Tabled.{still};
-ghost use Rattle.table.specs.Tables.{Rewaited, SameSize, ceiling_of, fresh, opening_of, record_of, state_of, states_of, ticked, waiting};
+ghost use Rattle.table.specs.Tables.{Rewaited, SameSize, fresh, state_of, states_of, ticked, waiting};
+ghost use Rattle.table.specs.Waits.{after};
 
 use crate::shortening::{Shortfall, Thousandths};
 use crate::timed::Timed;
-use bank::{Question, ask};
+use bank::Question;
 use std::alloc::{AllocError, Global};
-use stream::{Record, Refusal};
-
-// The most streams of a table that grows.
-pub(crate) const MOST: usize = 32;
+use stream::Refusal;
 
 // A stream and how many ticks it stays closed.
 #[derive(Clone, Copy)]
 pub(crate) struct State<S> {
     pub(crate) stream: S,
     pub(crate) wait: u64,
+}
+
+impl<S: Timed> State<S> {
+    // How many releases of the stream m moments later at most, if it stays closed for so many ticks.
+    pub(crate) fn told(&self, wait: u64, m: i64) -> Option<u64>
+        ensures { result ≡ told (Some (S.recorded self.now.stream)) (after wait (S.recorded self.now.stream).row.gap) (asked m) }
+    {
+        match Question::from(m) {
+            Question::Outside => None,
+            Question::Before => Some(0),
+            Question::At(m) if m < wait => Some(0),
+            Question::At(m) => Some((m - wait) / self.stream.record().row().gap + 1),
+        }
+    }
 }
 
 // The states of streams 1, 2 and so on.
@@ -51,43 +63,6 @@ impl<S: Timed> Table<S> {
     {
         let at = stream.checked_sub(1)?;
         self.states.get(at as usize)
-    }
-
-    pub(crate) fn record_of(&self, stream: u64) -> Option<Record>
-        ensures { result ≡ record_of S.recorded (states_of self.now) stream }
-    {
-        let state = self.state(stream)?;
-        Some(state.stream.record())
-    }
-
-    // One release a gap is what a table lets through.
-    pub(crate) fn count(&self, stream: u64) -> Option<u64>
-        ensures { result ≡ counted (record_of S.recorded (states_of self.now) stream) 1 }
-    {
-        self.state(stream).map(|_| 1)
-    }
-
-    pub(crate) fn ceiling(&self, stream: u64, m: i64) -> Option<u64>
-        ensures { result ≡ told (record_of S.recorded (states_of self.now) stream) (ceiling_of S.recorded (states_of self.now) stream) (asked m) }
-    {
-        let state = self.state(stream)?;
-        match ask(m) {
-            Question::Outside => None,
-            Question::Before => Some(0),
-            Question::At(m) => Some(m / state.stream.record().row().gap + 1),
-        }
-    }
-
-    pub(crate) fn opening(&self, stream: u64, m: i64) -> Option<u64>
-        ensures { result ≡ told (record_of S.recorded (states_of self.now) stream) (opening_of S.recorded (states_of self.now) stream) (asked m) }
-    {
-        let state = self.state(stream)?;
-        match ask(m) {
-            Question::Outside => None,
-            Question::Before => Some(0),
-            Question::At(m) if m < state.wait => Some(0),
-            Question::At(m) => Some((m - state.wait) / state.stream.record().row().gap + 1),
-        }
     }
 
     // Adds a stream that is open at once.
@@ -155,10 +130,8 @@ impl<S: Timed> Table<S> {
     pub(crate) fn falls_short(&self, factor: Thousandths) -> Result<(), Shortfall>
         ensures { result_err result ≡ first_short S.recorded factor.count (states_of self.now) }
     {
-        match self.first_short(factor) {
-            Some(at) => Err(Shortfall::Stream(at as u64 + 1)),
-            None => Ok(()),
-        }
+        self.first_short(factor)
+            .map_or(Ok(()), |at| Err(Shortfall::Stream(at as u64 + 1)))
     }
 
     pub(crate) fn shorten_all(&mut self, factor: Thousandths)

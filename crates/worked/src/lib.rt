@@ -6,7 +6,7 @@ ghost use Rattle.std.specs.Prelude.{◌≡◌, [], ◌∷◌, IfOk};
 ghost use Rattle.table.specs.Sporadics.{states_in};
 ghost use Rattle.table.specs.Tables.{fresh};
 ghost use Rattle.worked.specs.Lives.{Lived};
-ghost use Rattle.worked.specs.Plans.{JudgedPair, background, critical};
+ghost use Rattle.worked.specs.Plans.{JudgedPair};
 ghost use Rattle.worked.specs.Worked.{Worked};
 
 use demand::admit;
@@ -14,37 +14,35 @@ use std::alloc::{AllocError, Global};
 use stream::{Class, Record, Refusal, Row, Verdict};
 use table::Sporadic;
 
-// A lock renewal and a preview, as the README has them.
-fn lock_and_preview() -> (Row, Row)
-    ensures { result ≡ (critical 4 2, background 3 6) }
-{
-    let lock = Row {
-        class: Class::Critical,
-        budget: 2,
-        certain: 4,
-        short: 2,
-        deadline: 6,
-        gap: 6,
-    };
-    let preview = Row {
-        class: Class::Background,
-        budget: 3,
-        certain: 0,
-        short: 6,
-        deadline: 6,
-        gap: 6,
-    };
-    (lock, preview)
-}
+// The plan of the README: a lock renewal and a preview.
+pub const LOCK: Row = Row {
+    class: Class::Critical,
+    budget: 2,
+    certain: 4,
+    short: 2,
+    deadline: 6,
+    gap: 6,
+};
+
+pub const PREVIEW: Row = Row {
+    class: Class::Background,
+    budget: 3,
+    certain: 0,
+    short: 6,
+    deadline: 6,
+    gap: 6,
+};
 
 // The plan of the README, and what is worked out of it and of plans near it; and runs on it, in which a job finishes, one is cut, a switch drops one, and it is calm again.
+#[tactic(auto, using(crate::proofs::Working::worked, crate::proofs::Living::lived))]
 pub fn worked_plans() -> (Row, Row)
     ensures plans { Worked result.0 result.1 }
     ensures runs { Lived result.0 result.1 }
 {
-    lock_and_preview()
+    (LOCK, PREVIEW)
 }
 
+// A new bank has room for both, so neither is refused.
 fn bank_of_two(heap: Global, first: Record, second: Record) -> Result<Sporadic, AllocError>
     ensures { IfOk result (λ b. states_in b ≡ fresh first ∷ fresh second ∷ []) }
 {

@@ -25,19 +25,22 @@ impl<S: Timed> Bank for Timetable<S> {
     }
 
     fn record_of(&self, stream: u64) -> Option<Record> {
-        self.table.record_of(stream)
+        let state = self.table.state(stream)?;
+        Some(state.stream.record())
     }
 
+    // One release a gap is what a table lets through.
     fn count(&self, stream: u64) -> Option<u64> {
-        self.table.count(stream)
+        self.table.state(stream).map(|_| 1)
     }
 
     fn ceiling(&self, stream: u64, m: i64) -> Option<u64> {
-        self.table.ceiling(stream, m)
+        self.table.state(stream)?.told(0, m)
     }
 
     fn opening(&self, stream: u64, m: i64) -> Option<u64> {
-        self.table.opening(stream, m)
+        let state = self.table.state(stream)?;
+        state.told(state.wait, m)
     }
 
     fn begin(&mut self, moment: u64) {

@@ -7,18 +7,18 @@ ghost use Rattle.table.specs.Tables.{states_of};
 ghost use Rattle.table.specs.Shortening.{Shortening};
 
 use crate::phasing::OnRaster;
-use crate::shared::{MOST, Table};
+use crate::shared::Table;
 use crate::shortening::{Shortfall, Thousandths};
 use crate::timed::Timed;
 use crate::timetable::Timetable;
 use std::alloc::{AllocError, Global};
-use stream::{Record, Refusal};
+use stream::{MOST_STREAMS, Record, Refusal};
 
 impl<S: Timed> Timetable<S> {
     pub fn new(heap: Global) -> Result<Timetable<S>, AllocError>
         ensures { IfOk result (λ b. states_of b.table ≡ []) }
     {
-        let table = Table::with_room(heap, MOST)?;
+        let table = Table::with_room(heap, MOST_STREAMS)?;
         Ok(Timetable { table })
     }
 
@@ -26,7 +26,7 @@ impl<S: Timed> Timetable<S> {
     fn has_room(&self) -> Result<(), Refusal>
         ensures { MatchResult result (λ ok. length (states_of self.now.table) < 32) (λ e. (e ≡ TooManyStreams) × (32 ≤ length (states_of self.now.table))) }
     {
-        if self.table.streams() >= MOST as u64 {
+        if self.table.streams() >= MOST_STREAMS as u64 {
             return Err(Refusal::TooManyStreams);
         }
         Ok(())
