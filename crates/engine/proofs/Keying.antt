@@ -1,6 +1,6 @@
 -- The keys of the waiting jobs, collected one stream after another, and who is next by them.
 
-use Rattle.std.proofs.Common.{◌≡◌, ℕ, zero, suc, ◌+◌, ◌-◌, ◌<◌, ◌≤◌, List, [], ◌∷◌, ◌++◌, length, get_or, drop, is_some, Some, None, Option, sym, refl, ap, ◌∙◌, subst, arith}
+use Rattle.std.proofs.Common.{◌≡◌, ℕ, zero, suc, ◌+◌, ◌-◌, ◌<◌, ◌≤◌, List, [], ◌∷◌, ◌++◌, length, get_or, drop, is_some, Some, None, Option, sym, refl, ap, ◌∙◌, subst, arith, MatchOption}
 use borrow.Author.Tests.{clash}
 use Rattle.std.proofs.lemmas.List.{append_assoc, append-nil, at_drop_more, drop_all}
 use Rattle.stream.specs.declared.Phase.{Phase}
@@ -10,6 +10,7 @@ use Rattle.turns.specs.Jobs.{job_of}
 use Rattle.turns.specs.Steps.{Next, key}
 use Rattle.turns.specs.declared.Job.{Job}
 use Rattle.turns.specs.declared.State.{State}
+use Rattle.turns.specs.declared.Turn.{Turn}
 use Rattle.turns.specs.declared.Turn.TheVariants.{Idle, Of}
 use Rattle.engine.specs.Keys.{keys}
 
@@ -58,7 +59,7 @@ key_of_job mode first (Some o ∷ jobs) (suc p) h =
     (suc r.0, r.1, r.2, let l = r.3 in omega arith, λ d. r.4 d ∙ ap (λ (m : ℕ). key mode m r.1) e)
 
 -- the least key tells who is next
-pub next_job : (s : State) (items : List (ℕ × ℕ)) (item : ℕ × ℕ) → items ≡ keys s.mode 1 s.jobs → FirstLeast pair_below items (Some item) → Next s (Of item.1)
+next_job : (s : State) (items : List (ℕ × ℕ)) (item : ℕ × ℕ) → items ≡ keys s.mode 1 s.jobs → FirstLeast pair_below items (Some item) → Next s (Of item.1)
 next_job s items item is (b, best, at) =
     let mode = s.mode in
     let r = key_of_job mode 1 s.jobs b (subst (λ (xs : List (ℕ × ℕ)). b < length xs) is best.0) in
@@ -77,9 +78,14 @@ next_job s items item is (b, best, at) =
           ap (λ (x : ℕ × ℕ). pair_below x (key mode item.1 r.1)) (sym theirs) ∙ ap (λ (m : ℕ). pair_below (get_or items h.0 item) (key mode m r.1)) number ∙ ap (λ (x : ℕ × ℕ). pair_below (get_or items h.0 item) x) (sym (found item)) ∙ not_below,
     )
 
-pub next_idle : (s : State) (items : List (ℕ × ℕ)) → items ≡ keys s.mode 1 s.jobs → FirstLeast pair_below items None → Next s Idle
+next_idle : (s : State) (items : List (ℕ × ℕ)) → items ≡ keys s.mode 1 s.jobs → FirstLeast pair_below items None → Next s Idle
 next_idle s items is none i = by (job_of s.jobs i) refl
   where
     by : (x : Option Job) → job_of s.jobs i ≡ x → x ≡ None
     by None e = refl
     by (Some j) e = let h = key_there s.mode 1 s.jobs (i - 1) j e in let l = h.1 in let z : ⊥ = omega (arith, ap (λ (xs : List (ℕ × ℕ)). length xs) is) in absurd z
+
+-- the job of the least key if there is one, else nobody
+pub next_by : (s : State) (items : List (ℕ × ℕ)) (first : Option (ℕ × ℕ)) (turn : Turn) (Q : ℕ × ℕ → Type 0) → items ≡ keys s.mode 1 s.jobs → FirstLeast pair_below items first → MatchOption first (turn ≡ Idle) Q → ((item : ℕ × ℕ) → Q item → turn ≡ Of item.1) → Next s turn
+next_by s items (Some item) turn Q is least q gives = subst (Next s) (sym (gives item q)) (next_job s items item is least)
+next_by s items None turn Q is least q gives = subst (Next s) (sym q) (next_idle s items is least)

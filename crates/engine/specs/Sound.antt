@@ -1,6 +1,6 @@
 -- What the state of every engine keeps, so that no number of it can overflow and every turn that is out has a place.
 
-use Rattle.std.specs.Prelude.{◌≡◌, ℕ, ◌+◌, ◌*◌, ◌<◌, ◌≤◌, false, length, Some}
+use Rattle.std.specs.Prelude.{◌≡◌, ℕ, ◌+◌, ◌*◌, ◌<◌, ◌≤◌, false, Some}
 use Rattle.turns.specs.Jobs.{job_of, waiting}
 use Rattle.turns.specs.Steps.{last_moment, is_shut}
 use Rattle.turns.specs.declared.Job.{Job}
@@ -30,5 +30,9 @@ Tallied s =
     (s.tally.accepted ≡ s.tally.finished + s.tally.cut + s.tally.dropped + waiting s.jobs)
     × (s.tally.finished + s.tally.cut + s.tally.dropped ≤ 32 * s.moment)
 
-abbrev pub Sound : State → Type 0
-Sound s = (length s.jobs ≡ 32) × Early s × Placed s × Worked s × Near s × Tallied s
+pub record Sound (s : State) : Type 0 where
+  pub early : Early s
+  pub placed : Placed s
+  pub worked : Worked s
+  pub near : Near s
+  pub tallied : Tallied s

@@ -1,13 +1,12 @@
 // Whose turn is next.
 
-ghost use Rattle.std.specs.Prelude.{◌≡◌, ◌≤◌, length};
-ghost use Rattle.turns.specs.Steps.{Next, key, last_moment};
-ghost use Rattle.engine.specs.Sound.{Near, Worked};
+ghost use Rattle.std.specs.Prelude.{◌≡◌, ◌≤◌};
+ghost use Rattle.turns.specs.Steps.{Next, key, last_moment, with_turn};
+ghost use Rattle.engine.specs.Sound.{Placed, Sound};
 
-use crate::PLACES;
 use arrayvec::ArrayVec;
 use least::least;
-use stream::Phase;
+use stream::{MOST_STREAMS, Phase};
 use turns::{Job, State, Turn};
 
 // What jobs are chosen by: the deadline in a mode, then the stream's number.
@@ -26,21 +25,16 @@ fn key_of(mode: Phase, stream: u64, job: Job) -> (u64, u64)
 
 // The job with the least key, or nobody if no job waits.
 pub(crate) fn next_turn(state: &State) -> Turn
-    requires room { length state.now.jobs ≡ 32 }
     requires early { state.now.moment ≤ last_moment }
-    requires worked { Worked state.now }
-    requires near { Near state.now }
-    ensures { Next state.now result }
+    requires sound { Sound state.now }
+    ensures next { Next state.now result }
+    ensures placed { Placed (with_turn state.now result) }
 {
-    let mut keys = ArrayVec::<(u64, u64), 32>::new();
-    // the numbers that jobs are asked by, no places of a list
-    for stream in 1..PLACES + 1 {
-        if let Some(job) = state.jobs.of(stream) {
-            keys.push(key_of(state.mode, stream, job));
+    let mut keys = ArrayVec::<(u64, u64), MOST_STREAMS>::new();
+    for (at, place) in state.jobs.places().iter().enumerate() {
+        if let Some(job) = place {
+            keys.push(key_of(state.mode, at as u64 + 1, *job));
         }
     }
-    match least(keys.as_slice()) {
-        Some((_, stream)) => Turn::Of(stream),
-        None => Turn::Idle,
-    }
+    least(keys.as_slice()).map_or(Turn::Idle, |(_, stream)| Turn::Of(stream))
 }

@@ -11,6 +11,3 @@ mod work;
 pub use slip::Slip;
 pub use state::Engine;
 pub use work::Report;
-
-// The streams that an engine has a place for.
-const PLACES: u64 = 32;

@@ -42,6 +42,7 @@ pub(crate) fn settle_turn(state: &mut State, turn: Turn, done: bool) -> Settled
     requires out { state.old.turn ≡ Some turn }
     ensures told { result ≡ told_of state.old (runner (Some turn) state.old.jobs) done }
     ensures after { state.new ≡ after_turn state.old (runner (Some turn) state.old.jobs) done }
+    ensures sound { Sound state.new }
 {
     state.moment += 1;
     state.turn = None;

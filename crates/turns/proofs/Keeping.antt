@@ -196,8 +196,8 @@ pub record Carried (r : Record) (N O : ℕ → ℕ) (now : ℕ) (j : Job) : Type
   pub opens : (m : ℕ) → O m + 1 ≤ N (m + (now - j.since))
 
 abbrev pub CarriedSlot : Option Record → (ℕ → ℕ) → (ℕ → ℕ) → ℕ → Option Job → Type 0
-CarriedSlot found N O now None = Unit {0}
-CarriedSlot found N O now (Some j) = (r : Record) × (found ≡ Some r) × Carried r N O now j
+CarriedSlot known N O now None = Unit {0}
+CarriedSlot known N O now (Some j) = (r : Record) × (known ≡ Some r) × Carried r N O now j
 
 -- a critical job stays, a background one goes
 shed_critical : (j : Job) → j.row.class ≡ Critical → shed (Some j) ≡ Some j

@@ -1,7 +1,7 @@
 // The jobs that wait.
 
 ghost use Rattle.std.specs.Prelude.{◌≡◌, ◌-◌, ◌≤◌, List, map, length, replicate, None, count_by, Option};
-ghost use Rattle.turns.specs.Jobs.{is_background, job_of, put, shed, waiting};
+ghost use Rattle.turns.specs.Jobs.{background, is_background, job_of, put, shed, waiting};
 ghost use Rattle.turns.specs.declared.Job.{Job as Waiting};
 
 use crate::Job;
@@ -35,7 +35,17 @@ impl Jobs {
     pub fn none() -> Jobs
         ensures { result ≡ replicate 32 None }
     {
-        Jobs { places: [None; MOST_STREAMS] }
+        Jobs {
+            places: [None; MOST_STREAMS],
+        }
+    }
+
+    // A place for each stream, the first stream's first.
+    pub fn places(&self) -> &[Option<Job>; MOST_STREAMS]
+        ensures all { result.now ≡ self.now }
+        ensures room { length self.now ≡ 32 }
+    {
+        &self.places
     }
 
     // The job of a stream, if one waits.
@@ -51,6 +61,7 @@ impl Jobs {
         ensures { self.new ≡ put self.old stream job }
     {
         let at = place_of(stream);
+        // no `get_mut`, which says nothing of what the other places end as
         if at < self.places.len() {
             self.places[at] = job;
         }
@@ -71,25 +82,19 @@ impl Jobs {
         let dropped = self
             .places
             .iter()
-            .filter(|place| is_background(**place))
+            .filter(|place| place.is_some_and(|job| job.is_background()))
             .count() as u64;
-        self.places = self.places.map(|place| shed(place));
+        self.places = self
+            .places
+            .map(|place| place.filter(|job| !job.is_background()));
         dropped
     }
 }
 
-fn is_background(place: Option<Job>) -> bool
-    ensures { result ≡ is_background place }
-{
-    place.is_some_and(|job| job.row.class == Class::Background)
-}
-
-// What is left of a place where background jobs are dropped.
-fn shed(place: Option<Job>) -> Option<Job>
-    ensures { result ≡ shed place }
-{
-    match place {
-        Some(job) if job.row.class == Class::Background => None,
-        _ => place,
+impl Job {
+    fn is_background(&self) -> bool
+        ensures { result ≡ background self.now.row.class }
+    {
+        self.row.class == Class::Background
     }
 }

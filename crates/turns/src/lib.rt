@@ -50,7 +50,7 @@ pub enum Settled {
 }
 
 // How many jobs were accepted, and how many of them ended in which way.
-#[derive(Clone, Copy)]
+#[derive(Clone, Copy, Default)]
 pub struct Tally {
     pub accepted: u64,
     pub finished: u64,
@@ -108,12 +108,7 @@ impl State {
             verdict,
             turn: None,
             jobs: Jobs::none(),
-            tally: Tally {
-                accepted: 0,
-                finished: 0,
-                cut: 0,
-                dropped: 0,
-            },
+            tally: Tally::default(),
         }
     }
 }

@@ -9,18 +9,17 @@ ghost use Rattle.engine.specs.Reports.{counts_of};
 
 use crate::choosing::next_turn;
 use crate::settling::settle_turn;
-use crate::{Engine, PLACES, Report, Slip};
+use crate::{Engine, Report, Slip};
 use bank::Bank;
-use stream::{Class, Phase, Refusal, Verdict};
+use stream::{Class, MOST_STREAMS, Phase, Refusal, Verdict};
 use turns::{Counts, Job, LAST_MOMENT, Settled, Tally, begin};
 
 impl<B: Bank> Engine<B> {
     // Begins the bank at a moment and judges it: the engine is open, or shut by the refusal. Whatever is then called, in whatever order, no job is late and none is lost, by the ledger of those calls.
-    pub fn start(bank: B, moment: u64) -> Engine<B>
+    pub fn start(mut bank: B, moment: u64) -> Engine<B>
         ensures started { Started B.kind bank moment result.bank result.state }
         ensures promise { NoneLate B.kind result.bank result.state }
     {
-        let mut bank = bank;
         let state = begin(&mut bank, moment);
         Engine { bank, state }
     }
@@ -43,10 +42,7 @@ impl<B: Bank> Engine<B> {
     fn no_turn_out(&self) -> Result<(), Refusal>
         ensures { MatchResult result (λ _. is_some self.now.state.turn ≡ false) (λ e. (is_some self.now.state.turn ≡ true) × (e ≡ TurnOut)) }
     {
-        if self.state.turn.is_some() {
-            return Err(Refusal::TurnOut);
-        }
-        Ok(())
+        self.state.turn.map_or(Ok(()), |_| Err(Refusal::TurnOut))
     }
 
     // Whether releases of a class are refused in this mode.
@@ -62,7 +58,7 @@ impl<B: Bank> Engine<B> {
     {
         self.not_shut()?;
         let record = self.bank.record_of(stream).ok_or(Refusal::NoSuchStream)?;
-        if stream > PLACES {
+        if stream > MOST_STREAMS as u64 {
             return Err(Refusal::NoSuchStream);
         }
         self.no_turn_out()?;

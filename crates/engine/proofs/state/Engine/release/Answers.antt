@@ -22,11 +22,11 @@ same_job s i w row since jobs e f is = ap (accepted_with s) is ∙ ap (λ (x : R
 pub overflow_add-self : goal.overflow_add-self
 overflow_add-self g c =
     let e = c.args.self.now in
-    let t = e.tallied in
+    let t = e.sound.tallied in
     let not_shut : is_shut e.state.verdict ≡ false = search rules in
-    let d = e.early.0 not_shut in
+    let d = e.sound.early.0 not_shut in
     let w = count_by-le-length is_some e.state.jobs in
-    let r = e.room in
+    let r = c.of.ensures.room in
     omega arith
 
 pub invariant_of-self-2 : goal.invariant_of-self-2
@@ -36,12 +36,12 @@ invariant_of-self-2 g c =
     let r = c.in_ok-record.record in
     let found : g.B.Bank.kind.records e.bank c.args.stream ≡ Some r = search rules in
     let range = g.met.B.Bank.lawful.numbered e.bank c.args.stream r found in
-    let place = c.if-stream-gt-PLACES.false in
+    let place = c.if-stream.false in
     let no_turn : is_some s.turn ≡ false = search rules in
     let out : s.turn ≡ None = none_is s.turn no_turn in
     let free : job_of s.jobs c.args.stream ≡ None = none_is (job_of s.jobs c.args.stream) (ap is_some (sym c.of.ensures.job) ∙ sym c.is_some.ensures ∙ c.if-is_some.false) in
-    let kept = fields (with_job s c.args.stream (released r.row s.moment)) (accepted_with s c.put.new.self) (same_job s c.args.stream c.row-row.result r.row c.moment.result c.put.new.self c.row-row.ensures c.moment.ensures c.put.ensures) (sound_released s (e.room, e.early, e.placed, e.worked, e.near, e.tallied) c.args.stream r range.0 place out free) in
-    record { room = kept.0; early = kept.1; placed = kept.2; worked = kept.3; near = kept.4; tallied = kept.5 }
+    let kept = fields (with_job s c.args.stream (released r.row s.moment)) (accepted_with s c.put.new.self) (same_job s c.args.stream c.row-row.result r.row c.moment.result c.put.new.self c.row-row.ensures c.moment.ensures c.put.ensures) (sound_released s e.sound c.of.ensures.room c.args.stream r range.0 place out free) in
+    record { sound = kept }
 
 pub returns : goal.returns
 returns g c =
@@ -59,4 +59,4 @@ returns g c =
     (λ (l : 0 < k.opening e.bank i 0). l)
     (λ (l : k.opening e.bank i 0 ≤ 0). let refused = (c.accept.ensures.shut r found (omega arith)).0 in absurd (clash (ap is_ok (sym refused ∙ accepted))))
     (cases_lt 0 (k.opening e.bank i 0)) in
-    (r, found, release_granted s i r (k.opening e.bank i 0) not_shut c.if-stream-gt-PLACES.false no_turn (ap (λ (w : Row). background w.class && in_overrun s.mode) (sym c.row-row.ensures) ∙ sym c.shuns.ensures ∙ c.if-shuns.false) (ap is_some (sym c.of.ensures.job) ∙ sym c.is_some.ensures ∙ c.if-is_some.false) opens, (c.accept.ensures.taken r found opens).1, same_job s i c.row-row.result r.row c.moment.result c.put.new.self c.row-row.ensures c.moment.ensures c.put.ensures)
+    (r, found, release_granted s i r (k.opening e.bank i 0) not_shut c.if-stream.false no_turn (ap (λ (w : Row). background w.class && in_overrun s.mode) (sym c.row-row.ensures) ∙ sym c.shuns.ensures ∙ c.if-shuns.false) (ap is_some (sym c.of.ensures.job) ∙ sym c.is_some.ensures ∙ c.if-is_some.false) opens, (c.accept.ensures.taken r found opens).1, same_job s i c.row-row.result r.row c.moment.result c.put.new.self c.row-row.ensures c.moment.ensures c.put.ensures)

@@ -16,4 +16,4 @@ invariant_of-result g c =
     (λ (late : last_moment < moment). let is = (started.late late).1 in fields _ c.begin-state.result is (sound_fresh moment (Err MomentTooLate) (λ z. absurd (clash (sym z)))))
     (λ (early : moment ≤ last_moment). let is = (started.begun early).2 in fields _ c.begin-state.result is (sound_fresh moment _ (λ _. early)))
     (cases_lt last_moment moment) in
-    record { room = kept.0; early = kept.1; placed = kept.2; worked = kept.3; near = kept.4; tallied = kept.5 }
+    record { sound = kept }
