@@ -73,7 +73,7 @@ pub(crate) fn next_demand<B: Bank, M: Memory>(
     sum
 }
 
-// The demand at a length, with all lengths before it that matter.
+// The demand at a length, with all lengths before it that matter. Bank, streams and length stand apart as in `next_demand`.
 pub(crate) fn demand_of<B: Bank, M: Memory>(
     bank: &B,
     streams: &mut [Followed<M>],

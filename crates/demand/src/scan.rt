@@ -13,7 +13,7 @@ use bank::Bank;
 use least::least;
 use stream::{MOST_STREAMS, Point, Refusal, Verdict};
 
-// The point of a phase at a length, or the refusal if the demand exceeds it.
+// The point of a phase at a length, or the refusal if the demand exceeds it. Bank, streams and length stand apart as in `next_demand`.
 fn look<B: Bank, M: Memory>(
     bank: &B,
     streams: &mut [Followed<M>],

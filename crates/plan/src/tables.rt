@@ -37,7 +37,7 @@ impl Tables {
     }
 
     // Whether a stream more has a place.
-    fn room(&self) -> Result<(), Refusal>
+    fn has_room(&self) -> Result<(), Refusal>
         ensures { MatchResult result (λ _. size (rows_in self.now) < 32) (λ refusal. (refusal ≡ TooManyStreams) × (32 ≤ size (rows_in self.now))) }
     {
         if self.sporadic.streams() + self.raster.streams() < MOST_STREAMS as u64 {
@@ -51,7 +51,7 @@ impl Tables {
     pub(crate) fn add_sporadic(&mut self, row: Row) -> Result<(), Refusal>
         ensures { AddedSporadic (rows_in self.old) row result (rows_in self.new) }
     {
-        self.room()?;
+        self.has_room()?;
         if self.raster.streams() > 0 {
             return Err(Refusal::SporadicAfterRaster);
         }
@@ -63,7 +63,7 @@ impl Tables {
     pub(crate) fn add_raster(&mut self, row: Row, phase: u64) -> Result<(), Refusal>
         ensures { AddedRaster (rows_in self.old) row phase result (rows_in self.new) }
     {
-        self.room()?;
+        self.has_room()?;
         let record = Record::new(row)?;
         self.raster.grow(record, phase)
     }
