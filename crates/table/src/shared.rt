@@ -107,12 +107,14 @@ impl<S: Timed> Table<S> {
         }
     }
 
+    // A moment later. By place, since one method changes a state, and accept and tick go by it: a rule of this project.
     pub(crate) fn tick_all(&mut self)
         ensures states { states_of self.new ≡ map (ticked S.wait_after) (states_of self.old) }
         ensures size { SameSize self.old self.new }
     {
-        for state in self.states.iter_mut() {
-            state.wait = state.stream.wait_after(state.wait);
+        for at in 0..self.states.len() {
+            let state = self.states[at];
+            self.set_wait(at, state.stream.wait_after(state.wait));
         }
     }
 

@@ -6,6 +6,7 @@ use Rattle.text.specs.declared.call.Call.TheVariants.{Release, Turn, Calm}
 use Rattle.text.specs.Calls.{report_bytes, turn_bytes, order_bytes, call_bytes, ValidCall, CallForm}
 use Rattle.text.specs.Reading.{closed}
 use Rattle.text.specs.Words.{Form, Exactly, Small, Leaves, numbered}
+use Rattle.text.proofs.Forms.{leaves_kind, leaves_here}
 use Rattle.text.proofs.Grammar.{differ, at_prefix, after_prefix, of_kind, of_none}
 use Rattle.text.proofs.Lining.{at_numbered, after_numbered}
 use Rattle.text.proofs.Numerals.{Field}
@@ -15,6 +16,32 @@ use Rattle.text.proofs.Unique.{same_moment}
 
 abbrev ReportForm : List ℕ → Type 0
 ReportForm = Form report_bytes (λ _. Unit {0})
+
+-- the first byte tells the report
+abbrev ReportKind : Option ℕ → List ℕ → Type 0
+ReportKind None = λ w. ⊥
+ReportKind (Some b) = cond (eqb b 121) (Exactly (codes "yes)\n")) (cond (eqb b 110) (Exactly (codes "no)\n")) (λ w. ⊥))
+
+report_kind : (w : List ℕ) → ReportForm w → ReportKind (slice_get w 0) w
+report_kind w (true, v, f) = subst (λ (x : List ℕ). ReportKind (slice_get x 0) x) (sym f) refl
+report_kind w (false, v, f) = subst (λ (x : List ℕ). ReportKind (slice_get x 0) x) (sym f) refl
+
+module _ (s : List ℕ) (k : ℕ) where
+  pub report_yes : slice_get s 0 ≡ Some 121 → Leaves (Exactly (codes "yes)\n")) s k → Leaves ReportForm s k
+  report_yes is l = leaves_kind ReportForm ReportKind report_kind _ s k is (λ w r. (true, tt, r)) l
+
+  pub report_no : slice_get s 0 ≡ Some 110 → Leaves (Exactly (codes "no)\n")) s k → Leaves ReportForm s k
+  report_no is l = leaves_kind ReportForm ReportKind report_kind _ s k is (λ w r. (false, tt, r)) l
+
+  pub report_none : slice_get s 0 ≢ Some 121 → slice_get s 0 ≢ Some 110 → k ≡ length s → Leaves ReportForm s k
+  report_none not_yes not_no count = leaves_here ReportForm s k 110 _ (false, tt, refl) none count
+    where
+      none : (w : List ℕ) → ReportForm w → slice_get w 0 ≡ slice_get s 0 → ⊥
+      none w (true, v, f) h = not_yes (sym h ∙ ap (λ (x : List ℕ). slice_get x 0) f)
+      none w (false, v, f) h = not_no (sym h ∙ ap (λ (x : List ℕ). slice_get x 0) f)
+
+-- where a report goes out of shape
+pub ruleset report_ends = (report_yes, report_no, report_none)
 
 abbrev TurnForm : List ℕ → Type 0
 TurnForm = Form turn_bytes (λ _. Unit {0})

@@ -1,14 +1,14 @@
 -- The form of a row, taken apart into its words and fields, and where a text leaves it.
 
-use Rattle.std.proofs.Common.{◌≡◌, ℕ, ◌<◌, true, false, eqb, ◌≢◌, List, [], ◌∷◌, ◌++◌, length, get_or, slice_get, Option, codes, decimal, sym, refl, ap, ◌∙◌, subst, append_assoc, lit<}
+use Rattle.std.proofs.Common.{Some, None, cond, ◌≡◌, ℕ, ◌<◌, false, eqb, ◌≢◌, List, [], ◌∷◌, ◌++◌, length, get_or, slice_get, Option, codes, decimal, sym, refl, ap, ◌∙◌, subst, append_assoc, lit<}
 use Rattle.stream.specs.declared.Class.{Class}
 use Rattle.stream.specs.declared.Class.TheVariants.{Critical, Background}
 use Rattle.stream.specs.declared.Row.{Row}
 use Rattle.text.specs.Lines.{class_letter, row_bytes, SmallRow}
 use Rattle.std.proofs.lemmas.Bool.{eqb-false}
 use Rattle.text.specs.Reading.{closed}
-use Rattle.text.specs.Words.{Form, Exactly, Small, Leaves, one_of}
-use Rattle.text.proofs.Forms.{Apart, Then, apart_exactly, apart_form, leaves_same, leaves_first, leaves_second, leaves_by_first, leaves_kind, leaves_here}
+use Rattle.text.specs.Words.{Form, Exactly, Small, Leaves}
+use Rattle.text.proofs.Forms.{Apart, Then, apart_exactly, apart_form, leaves_same, leaves_first, leaves_second, leaves_kind, leaves_here}
 use Rattle.text.proofs.Numerals.{Field, apart_field}
 
 abbrev pub ClassForm : List ℕ → Type 0
@@ -31,26 +31,6 @@ after_exactly M bytes s t k e l = leaves_second (Exactly bytes) M s bytes t k (a
 after_field : {M : List ℕ → Type 0} {s t : List ℕ} {k : ℕ} (close : List ℕ) (n : ℕ) → get_or close 0 48 < 48 → Small n × (s ≡ closed close n ++ t) → Leaves M t k → Leaves (Then (Field close) M) s k
 after_field {M} {s} {t} {k} close n low e l = leaves_second (Field close) M s (decimal n ++ close) t k (apart_field close low) (n, e.0, refl) e.1 l
 
--- ---- one of two words, which begin apart
-
-abbrev pub OneOf : List ℕ → List ℕ → List ℕ → Type 0
-OneOf one other = Form (one_of one other) (λ _. Unit {0})
-
-module _ (one other s : List ℕ) (k : ℕ) where
-  pub leaves_one : slice_get one 0 ≢ slice_get other 0 → slice_get s 0 ≡ slice_get one 0 → Leaves (Exactly one) s k → Leaves (OneOf one other) s k
-  leaves_one apart first l = leaves_by_first (Exactly one) (OneOf one other) s k (λ w e. (true, tt, e)) only l
-    where
-      only : (w : List ℕ) → OneOf one other w → slice_get w 0 ≡ slice_get s 0 → Exactly one w
-      only w (true, u, e) h = e
-      only w (false, u, e) h = absurd (apart (sym first ∙ sym h ∙ ap (λ (x : List ℕ). slice_get x 0) e))
-
-  pub leaves_other : slice_get s 0 ≢ slice_get one 0 → Leaves (Exactly other) s k → Leaves (OneOf one other) s k
-  leaves_other first l = leaves_by_first (Exactly other) (OneOf one other) s k (λ w e. (false, tt, e)) only l
-    where
-      only : (w : List ℕ) → OneOf one other w → slice_get w 0 ≡ slice_get s 0 → Exactly other w
-      only w (true, u, e) h = absurd (first (sym h ∙ ap (λ (x : List ℕ). slice_get x 0) e))
-      only w (false, u, e) h = e
-
 -- ---- the class
 
 -- texts that differ at a place are not the same
@@ -66,16 +46,31 @@ same_class Background Background x y e = (refl, (cc))
 apart_class : Apart ClassForm
 apart_class = apart_form class_letter (λ _. Unit {0}) (λ k l x y _ _ e. (same_class k l x y e).0)
 
-pub leaves_class : (s : List ℕ) (k : ℕ) → Leaves (OneOf (codes "H") (codes "L")) s k → Leaves ClassForm s k
-leaves_class s k l = leaves_same (OneOf (codes "H") (codes "L")) ClassForm s k to from l
-  where
-    to : (w : List ℕ) → OneOf (codes "H") (codes "L") w → ClassForm w
-    to w (true, u, e) = (Critical, u, e)
-    to w (false, u, e) = (Background, u, e)
+-- the letter tells the class
+abbrev ClassKind : Option ℕ → List ℕ → Type 0
+ClassKind None = λ w. ⊥
+ClassKind (Some b) = cond (eqb b 72) (Exactly (codes "H")) (cond (eqb b 76) (Exactly (codes "L")) (λ w. ⊥))
 
-    from : (w : List ℕ) → ClassForm w → OneOf (codes "H") (codes "L") w
-    from w (Critical, u, e) = (true, u, e)
-    from w (Background, u, e) = (false, u, e)
+class_kind : (w : List ℕ) → ClassForm w → ClassKind (slice_get w 0) w
+class_kind w (Critical, v, f) = subst (λ (x : List ℕ). ClassKind (slice_get x 0) x) (sym f) refl
+class_kind w (Background, v, f) = subst (λ (x : List ℕ). ClassKind (slice_get x 0) x) (sym f) refl
+
+module _ (s : List ℕ) (k : ℕ) where
+  pub class_critical : slice_get s 0 ≡ Some 72 → Leaves (Exactly (codes "H")) s k → Leaves ClassForm s k
+  class_critical is l = leaves_kind ClassForm ClassKind class_kind _ s k is (λ w r. (Critical, tt, r)) l
+
+  pub class_background : slice_get s 0 ≡ Some 76 → Leaves (Exactly (codes "L")) s k → Leaves ClassForm s k
+  class_background is l = leaves_kind ClassForm ClassKind class_kind _ s k is (λ w r. (Background, tt, r)) l
+
+  pub class_none : slice_get s 0 ≢ Some 72 → slice_get s 0 ≢ Some 76 → k ≡ length s → Leaves ClassForm s k
+  class_none critical background count = leaves_here ClassForm s k 76 [] (Background, tt, refl) none count
+    where
+      none : (w : List ℕ) → ClassForm w → slice_get w 0 ≡ slice_get s 0 → ⊥
+      none w (Critical, v, f) h = critical (sym h ∙ ap (λ (x : List ℕ). slice_get x 0) f)
+      none w (Background, v, f) h = background (sym h ∙ ap (λ (x : List ℕ). slice_get x 0) f)
+
+-- where a class letter goes out of shape
+pub ruleset class_ends = (class_critical, class_background, class_none)
 
 -- ---- a word in front of a form
 

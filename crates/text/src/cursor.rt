@@ -5,7 +5,7 @@ ghost use Rattle.std.specs.Str.Parse.{AllDigits, digits_value};
 ghost use Rattle.std.specs.Float.Numeral.{digits_len};
 ghost use Rattle.std.specs.Int.{IsInRange};
 ghost use Rattle.text.specs.Reading.{ahead, closed, Reads, Strays, Numeral, Counted};
-ghost use Rattle.text.specs.Words.{Exactly, Small, one_of};
+ghost use Rattle.text.specs.Words.{Exactly, Small};
 
 mod calls;
 mod lines;
@@ -23,6 +23,13 @@ pub struct Cursor<'a> {
 #[derive(Clone, Copy, PartialEq, Eq, Debug)]
 pub struct Misfit {
     pub left: usize,
+}
+
+// The first byte as a character, by which words are told apart.
+fn head(text: &[u8]) -> Option<char>
+    ensures { result ≡ slice_get text.now 0 }
+{
+    text.first().map(|byte| char::from(*byte))
 }
 
 // How many digits stand at the front of the text.
@@ -80,21 +87,6 @@ impl<'a> Cursor<'a> {
             }
         }
         Ok(())
-    }
-
-    // Whether one word comes, or else the other. They begin apart.
-    #[tactic(auto, using(crate::proofs::Grammar::leaves_other))]
-    fn either(&mut self, one: &[u8], other: &[u8]) -> Result<bool, Misfit>
-        requires { slice_get one.now 0 ≢ slice_get other.now 0 }
-        ensures { Reads (one_of one.now other.now) (λ _. Unit {0}) (ahead self.old) result (ahead self.new) }
-    {
-        if self.rest.first() == one.first() {
-            self.word(one)?;
-            Ok(true)
-        } else {
-            self.word(other)?;
-            Ok(false)
-        }
     }
 
     // A number, as many digits as can be its own.

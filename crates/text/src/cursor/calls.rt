@@ -5,15 +5,26 @@ ghost use Rattle.text.specs.Calls.{report_bytes, call_bytes, ValidCall};
 ghost use Rattle.text.specs.Reading.{ahead, Reads};
 
 use crate::call::Call;
-use crate::cursor::{Cursor, Misfit};
+use crate::cursor::{Cursor, Misfit, head};
 use crate::from_line::FromLine;
 
 impl<'a> Cursor<'a> {
     // Whether a job is done, to the end of the line.
+    #[tactic(auto, using(crate::proofs::Calling::report_ends))]
     fn report(&mut self) -> Result<bool, Misfit>
         ensures { Reads report_bytes (λ _. Unit {0}) (ahead self.old) result (ahead self.new) }
     {
-        self.either(b"yes)\n", b"no)\n")
+        match head(self.rest) {
+            Some('y') => {
+                self.word(b"yes)\n")?;
+                Ok(true)
+            }
+            Some('n') => {
+                self.word(b"no)\n")?;
+                Ok(false)
+            }
+            _ => Err(self.misfit()),
+        }
     }
 
     #[tactic(auto, using(crate::proofs::Calling::call_ends))]
@@ -21,16 +32,16 @@ impl<'a> Cursor<'a> {
         ensures { Reads call_bytes ValidCall (ahead self.old) result (ahead self.new) }
     {
         self.word(b"(")?;
-        match self.rest.first() {
-            Some(b'r') => {
+        match head(self.rest) {
+            Some('r') => {
                 self.word(b"release ")?;
                 Ok(Call::Release(self.number(b")\n")?))
             }
-            Some(b't') => {
+            Some('t') => {
                 self.word(b"turn ")?;
                 Ok(Call::Turn(self.report()?))
             }
-            Some(b'c') => {
+            Some('c') => {
                 self.word(b"calm)\n")?;
                 Ok(Call::Calm)
             }

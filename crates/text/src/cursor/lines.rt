@@ -5,20 +5,26 @@ ghost use Rattle.std.proofs.Common.{rules};
 ghost use Rattle.text.specs.Lines.{class_letter, row_bytes, render, SmallRow, Valid};
 ghost use Rattle.text.specs.Reading.{ahead, Reads};
 
-use crate::cursor::{Cursor, Misfit};
+use crate::cursor::{Cursor, Misfit, head};
 use crate::from_line::FromLine;
 use crate::line::Line;
 use stream::{Class, Row};
 
 impl<'a> Cursor<'a> {
-    #[tactic(auto, using(crate::proofs::Grammar::leaves_class))]
+    #[tactic(auto, using(crate::proofs::Grammar::class_ends))]
     fn class(&mut self) -> Result<Class, Misfit>
         ensures { Reads class_letter (λ _. Unit {0}) (ahead self.old) result (ahead self.new) }
     {
-        if self.either(b"H", b"L")? {
-            Ok(Class::Critical)
-        } else {
-            Ok(Class::Background)
+        match head(self.rest) {
+            Some('H') => {
+                self.word(b"H")?;
+                Ok(Class::Critical)
+            }
+            Some('L') => {
+                self.word(b"L")?;
+                Ok(Class::Background)
+            }
+            _ => Err(self.misfit()),
         }
     }
 
@@ -49,18 +55,18 @@ impl<'a> Cursor<'a> {
         ensures { Reads render Valid (ahead self.old) result (ahead self.new) }
     {
         self.word(b"(")?;
-        match self.rest.first() {
-            Some(b'S') => {
+        match head(self.rest) {
+            Some('S') => {
                 self.word(b"S ")?;
                 Ok(Line::Sporadic(self.row(b")\n")?))
             }
-            Some(b'R') => {
+            Some('R') => {
                 self.word(b"R ")?;
                 let row = self.row(b" ")?;
                 let phase = self.number(b")\n")?;
                 Ok(Line::Raster(row, phase))
             }
-            Some(b'g') => {
+            Some('g') => {
                 self.word(b"go ")?;
                 Ok(Line::Go(self.number(b")\n")?))
             }

@@ -1,12 +1,18 @@
-use Rattle.std.proofs.Common.{get_or, set, ap, ◌∙◌, arith}
+use Rattle.std.proofs.Common.{Some, set, ap, sym, ◌∙◌, ◌<◌, length, arith}
 use Rattle.std.proofs.lemmas.List.Edits.{map_over_more}
-use Rattle.table.specs.Tables.{ticked, waiting}
+use Rattle.std.proofs.lemmas.Option.{slice_get-get_or}
+use Rattle.table.specs.Tables.{states_of, ticked, waiting}
 use Rattle.table.proofs.shared.Table.tick_all.Goals as goal
 
-pub loop-state-preserved : goal.loop-state-preserved
-loop-state-preserved g c =
-    let items = c.loop-state.state-items in
-    let i = c.loop-state.state-index in
-    let s = get_or items i c.state-item.result in
-    ap (λ wait. set items i (waiting wait s)) c.wait_after-state.ensures
-    ∙ map_over_more (ticked g.S.Timed.wait_after) c.deref_mut-state-items.result.now items i s (omega arith) c.loop-state.invariant (ap (get_or items i) c.state-item.is)
+pub loop-at-preserved : goal.loop-at-preserved
+loop-at-preserved g c =
+    let at = c.loop-at.at in
+    let now = states_of c.loop-at.self in
+    let s = c.index.result.now in
+    let same = c.loop-at.invariant.0 in
+    let here : at < length now = omega arith in
+    let set_to = c.set_wait.ensures.states s (slice_get-get_or now at s here ∙ ap Some (sym c.index.ensures)) in (
+      (c.set_wait.ensures.size.0 ∙ same.0, c.set_wait.ensures.size.1 ∙ same.1),
+      set_to ∙ ap (λ wait. set now at (waiting wait s)) c.wait_after.ensures
+          ∙ map_over_more (ticked g.S.Timed.wait_after) (states_of c.args.self.now) now at s (omega arith) c.loop-at.invariant.1 c.index.ensures,
+    )

@@ -1,8 +1,8 @@
 use Rattle.std.proofs.Common.{◌≡◌, ◌++◌, map, take, drop}
-use Rattle.table.specs.Tables.{ticked}
+use Rattle.table.specs.Tables.{SameSize, states_of, ticked}
 use Rattle.table.proofs.shared.Table.tick_all.Given as goal
 
-abbrev pub invariant-loop-state : goal.invariant-loop-state
-invariant-loop-state g l =
-    let tick = ticked g.S.Timed.wait_after in
-    l.state-items ≡ map tick (take l.state-index l.initial.state-items) ++ drop l.state-index l.initial.state-items
+abbrev pub invariant-loop-at : goal.invariant-loop-at
+invariant-loop-at g l =
+    let states = states_of l.initial.self in
+    SameSize l.initial.self l.self × (states_of l.self ≡ map (ticked g.S.Timed.wait_after) (take l.at states) ++ drop l.at states)
