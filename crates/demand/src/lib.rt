@@ -28,7 +28,7 @@ pub use published::sporadic_share;
 // No horizon may lie farther.
 const FARTHEST: u64 = 1000000;
 
-// The plateau of a stream's ceiling that was last looked at: where it began, and its value; 0 before the first look.
+// The plateau of a stream's ceiling that was last looked at: where it began, and its value; 0 before the first look: no ceiling is 0, so the first look begins a plateau with no case of its own, as an Option would need.
 #[derive(Clone, Copy, Default)]
 struct Plateau {
     start: u64,

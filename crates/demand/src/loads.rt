@@ -23,7 +23,7 @@ pub fn load<B: Bank>(bank: &B) -> u64
     ensures { result ≡ total_load B.kind bank.now }
 {
     let mut sum = 0;
-    // the numbers that a bank is asked by, no places of a list
+    // By number, since there is no list of streams. A `sum` of them was tried: that it fits is not proved, where the loop's bound is.
     for stream in 1..bank.streams() + 1 {
         sum += load_of(bank, stream);
     }

@@ -40,6 +40,7 @@ fn look<B: Bank, M: Memory>(
     Ok(point)
 }
 
+// The order of points by margin alone: of two lengths the later never comes first, so no more has to be compared at each.
 fn closer(point: Point, other: Point) -> bool
     ensures { result ≡ by_margin point other }
 {

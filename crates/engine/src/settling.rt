@@ -46,7 +46,7 @@ pub(crate) fn settle_turn(state: &mut State, turn: Turn, done: bool) -> Settled
 {
     state.moment += 1;
     state.turn = None;
-    // Nobody ran is an answer and no refusal, so nothing is carried by `?`.
+    // That nobody ran is an answer and no refusal. A function in which `?` could carry both ways to it would be one more to read.
     let Turn::Of(stream) = turn else {
         return Settled::Idle;
     };

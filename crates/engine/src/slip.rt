@@ -4,7 +4,7 @@ ghost use Rattle.std.specs.Prelude.{◌≡◌};
 
 use stream::Refusal;
 
-// Void by a refusal, or good for the turn that is out. An Option: the refusal is kept and told, and no call fails by it.
+// Void by a refusal, or good for the turn that is out. No `Result` of a slip is handed out in its place, since a void slip has to be settled too.
 pub struct Slip {
     pub(crate) void: Option<Refusal>,
 }

@@ -27,11 +27,10 @@ mod tests {
         let bank = bank_of_two(rt.alloc())?;
         let normal = [0u64, 0, 2, 2, 2, 2, 5];
         let overrun = [0u64, 0, 0, 0, 2, 3, 4];
-        for (length, demand) in (0..).zip(normal) {
-            assert_eq!(rt; demand_at(&bank, Phase::Normal, length), Some(demand));
-        }
-        for (length, demand) in (0..).zip(overrun) {
-            assert_eq!(rt; demand_at(&bank, Phase::Overrun, length), Some(demand));
+        for (phase, demands) in [(Phase::Normal, normal), (Phase::Overrun, overrun)] {
+            for (length, demand) in (0..).zip(demands) {
+                assert_eq!(rt; demand_at(&bank, phase, length), Some(demand));
+            }
         }
         assert_eq!(rt; demand_at(&bank, Phase::Normal, 1000001), None);
         Ok(())
@@ -64,7 +63,7 @@ mod tests {
         Ok(())
     }
 
-    // The loop stands in three examples: only an example may be given a handle that can stop, so no function can have it.
+    // The loop stands in three examples. A function of it could not assert, and would have to hand back which text went wrong.
     #[test]
     fn answers_to_plans(rt: HostRuntime) -> Result<(), Fail> {
         let cases = [

@@ -14,7 +14,7 @@ use bank::{Bank, most_accepted};
 use stream::{Record, Refusal};
 use table::Sporadic;
 
-// Open for so many ticks by now, or shut.
+// Open for so many ticks by now, or shut. No Option, whose `None` would not say that the gate is shut.
 #[derive(Clone, Copy)]
 enum Gate {
     Open(u64),

@@ -7,7 +7,7 @@ ghost use Rattle.plan.specs.Plans.{AddedRaster, AddedSporadic, no_rows, rows_in,
 use bank::Bank;
 use join::Joined;
 use std::alloc::{AllocError, Global};
-use stream::{MOST_STREAMS, Record, Refusal, Row};
+use stream::{Record, Refusal, Row, room_for_more};
 use table::{Raster, Sporadic};
 
 // A plan is judged as one bank.
@@ -40,11 +40,7 @@ impl Tables {
     fn has_room(&self) -> Result<(), Refusal>
         ensures { MatchResult result (λ _. size (rows_in self.now) < 32) (λ refusal. (refusal ≡ TooManyStreams) × (32 ≤ size (rows_in self.now))) }
     {
-        if self.sporadic.streams() + self.raster.streams() < MOST_STREAMS as u64 {
-            Ok(())
-        } else {
-            Err(Refusal::TooManyStreams)
-        }
+        room_for_more(self.sporadic.streams() + self.raster.streams())
     }
 
     // A sporadic stream more, unless there are 32 streams already, one on a raster came before, or its numbers break a limit.

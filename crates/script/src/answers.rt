@@ -1,22 +1,18 @@
 // The answers to a text.
 
 ghost use Rattle.std.specs.Prelude.{◌≡◌, [], string_bytes, OnOk};
-ghost use Rattle.plan.specs.Plans.{no_rows, rows_in};
 ghost use Rattle.script.specs.Replays.{Replayed};
 
 use crate::script::run_script;
 use plan::{Answers, Tables, open_plan};
-use std::alloc::AllocError;
+use std::alloc::{AllocError, Global};
 use text::{Answer, Reader};
 
 // Opens the plan of a text and runs the script after it.
-pub(crate) fn answer_to(
-    text: &[u8],
-    tables: Tables,
-    answers: &mut Answers,
-) -> Result<(), AllocError>
-    ensures { OnOk result ((rows_in tables ≡ no_rows → string_bytes answers.old.lines ≡ [] → Replayed text.now (string_bytes answers.new.lines))) }
+pub(crate) fn answer_to(heap: Global, text: &[u8], answers: &mut Answers) -> Result<(), AllocError>
+    ensures { OnOk result ((string_bytes answers.old.lines ≡ [] → Replayed text.now (string_bytes answers.new.lines))) }
 {
+    let tables = Tables::new(heap)?;
     let mut reader = Reader::new(text);
     // A fault is told and not carried, so each arm has its own to do.
     match open_plan(&mut reader, tables) {

@@ -22,9 +22,8 @@ const NO_MEMORY: i64 = -1;
 pub fn play(heap: Global, text: &[u8]) -> Result<String, AllocError>
     ensures { IfOk result (λ s. Replayed text.now (string_bytes s)) }
 {
-    let tables = Tables::new(heap)?;
     let mut answers = Answers::new(heap);
-    answer_to(text, tables, &mut answers)?;
+    answer_to(heap, text, &mut answers)?;
     Ok(answers.lines)
 }
 

@@ -26,7 +26,7 @@ pub(crate) fn check_plan(text: &[u8], mut tables: Tables) -> Result<Verdict, Ref
     admit(&tables.into_bank())
 }
 
-// As C is told it.
+// One signed number, as C is told a verdict or a refusal.
 pub(crate) fn number_of(answer: Result<Verdict, Refusal>) -> i64
     ensures { result ≡ told answer }
 {

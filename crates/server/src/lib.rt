@@ -8,7 +8,7 @@ ghost use Rattle.server.specs.Replays.{Replayed};
 mod answers;
 
 use answers::answer_to;
-use plan::{Answers, Tables};
+use plan::Answers;
 use std::alloc::{AllocError, Global};
 
 // The longest text, in bytes, that replay reads.
@@ -18,8 +18,7 @@ pub const LONGEST_TEXT: u64 = 65536;
 pub fn replay(heap: Global, text: &[u8]) -> Result<String, AllocError>
     ensures { IfOk result (λ s. Replayed text.now (string_bytes s)) }
 {
-    let tables = Tables::new(heap)?;
     let mut answers = Answers::new(heap);
-    answer_to(text, tables, &mut answers)?;
+    answer_to(heap, text, &mut answers)?;
     Ok(answers.lines)
 }

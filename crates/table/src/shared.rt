@@ -38,7 +38,7 @@ impl<S: Timed> State<S> {
     }
 }
 
-// The states of streams 1, 2 and so on. That an act keeps the size speaks of the table before and after, so no type can say it for the five acts.
+// The states of streams 1, 2 and so on. Since it keeps no invariant, that an act keeps its size is said of each of the five acts, and `Timetable` keeps the bounds by it.
 #[derive(Drop)]
 pub(crate) struct Table<S> {
     states: Vec<State<S>>,

@@ -25,7 +25,7 @@ pub struct Misfit {
     pub left: usize,
 }
 
-// The first byte as a character, by which words are told apart.
+// The first byte as a character. Lines, calls, classes and reports are told apart by it, a case for each letter: a rule of this project.
 fn head(text: &[u8]) -> Option<char>
     ensures { result ≡ slice_get text.now 0 }
 {

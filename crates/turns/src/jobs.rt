@@ -24,7 +24,7 @@ impl Model for Jobs {
     ghost inverse = { λ places. record { places = places } };
 }
 
-// Streams are numbered from 1, and places from 0.
+// Streams are numbered from 1, and places from 0. No stream has number 0; who asks for it is shown the first place.
 fn place_of(stream: u64) -> usize
     ensures { result ≡ stream - 1 }
 {

@@ -80,7 +80,7 @@ impl<B: Bank> Engine<B> {
         Ok(())
     }
 
-    // Gives the next turn out, if one can be.
+    // Gives the next turn out, if one can be. That the bank stays is a promise of this call, of pick and of calm, each for its own caller.
     fn hand_out(&mut self) -> Result<(), Refusal>
         ensures picked { MatchResult result (λ _. Picked self.old.state None self.new.state) (λ e. Picked self.old.state (Some e) self.new.state) }
         ensures bank { self.new.bank ≡ self.old.bank }

@@ -1,6 +1,6 @@
 // Making and growing a timetable, and shortening its streams.
 
-ghost use Rattle.std.specs.Prelude.{◌≡◌, ◌≤◌, ◌<◌, [], length, IfOk, MatchResult};
+ghost use Rattle.std.specs.Prelude.{◌≡◌, ◌<◌, ◌≤◌, [], length, IfOk, MatchResult};
 ghost use Rattle.stream.specs.declared.Refusal.TheVariants.{TooManyStreams};
 ghost use Rattle.table.specs.Growing.{Grown, GrownOn};
 ghost use Rattle.table.specs.Tables.{states_of};
@@ -12,7 +12,7 @@ use crate::shortening::{Shortfall, Thousandths};
 use crate::timed::Timed;
 use crate::timetable::Timetable;
 use std::alloc::{AllocError, Global};
-use stream::{MOST_STREAMS, Record, Refusal};
+use stream::{MOST_STREAMS, Record, Refusal, room_for_more};
 
 impl<S: Timed> Timetable<S> {
     pub fn new(heap: Global) -> Result<Timetable<S>, AllocError>
@@ -22,14 +22,11 @@ impl<S: Timed> Timetable<S> {
         Ok(Timetable { table })
     }
 
-    // Refuses a stream more than there may be.
+    // Whether a stream more has a place.
     fn has_room(&self) -> Result<(), Refusal>
-        ensures { MatchResult result (λ ok. length (states_of self.now.table) < 32) (λ e. (e ≡ TooManyStreams) × (32 ≤ length (states_of self.now.table))) }
+        ensures { MatchResult result (λ _. length (states_of self.now.table) < 32) (λ refusal. (refusal ≡ TooManyStreams) × (32 ≤ length (states_of self.now.table))) }
     {
-        if self.table.streams() >= MOST_STREAMS as u64 {
-            return Err(Refusal::TooManyStreams);
-        }
-        Ok(())
+        room_for_more(self.table.streams())
     }
 
     // Gives every critical stream a short deadline of so many thousandths of its deadline, if none would be below its budget.

@@ -17,7 +17,7 @@ impl<'a> Reader<'a> {
         ensures complete { AllRead F.bytes F.valid (bytes_left self.old) result }
     {
         let mut cursor = Cursor { rest: self.rest };
-        // A match, since `map_err` needs a clause on its closure: that the misfit lies within the text.
+        // A match: with `map_err` and `?` it was not proved that the fault stands where the misfit says.
         match F::from_line(&mut cursor) {
             Ok(value) => {
                 self.pass(cursor.rest);

@@ -11,16 +11,16 @@ use Rattle.server.proofs.answers.answer_to.Goals as goal
 pub returns-in-Err : goal.returns-in-Err
 returns-in-Err c =
     IfOk-weaker c.tell.result _ _
-    (λ x told empty none.
-    let off = not_opened c.args.text.now 1 no_rows c.in-Err.fault (simp (c.new-reader.ensures.text, c.new-reader.ensures.line, empty) at c.in-Err.ensures) in
+    (λ x told none.
+    let off = not_opened c.args.text.now 1 no_rows c.in-Err.fault (simp (c.new-reader.ensures.text, c.new-reader.ensures.line, c.in_ok-tables.ensures) at c.in-Err.ensures) in
     (Refused c.in-Err.fault ∷ [], refused off.2, one_line (Refused c.in-Err.fault) [] (string_bytes c.tell.new.self.lines) (rw none at told)))
     c.tell.ensures
 
 pub returns-in_ok-tell-in-Ok : goal.returns-in_ok-tell-in-Ok
 returns-in_ok-tell-in-Ok c =
     IfOk-weaker c.tell-in-Ok-2.result _ _
-    (λ x told empty none.
-    let o = simp (c.new-reader.ensures.text, c.new-reader.ensures.line, empty) at c.in-Ok.ensures in
+    (λ x told none.
+    let o = simp (c.new-reader.ensures.text, c.new-reader.ensures.line, c.in_ok-tables.ensures) at c.in-Ok.ensures in
     let verdict = c.in-Ok.opening.verdict in
     let last = c.map_or_else-last.result in (
       Accepted verdict ∷ last ∷ [],
