@@ -281,17 +281,20 @@ mod tests {
         assert_eq!(rt; bank.opening(32, 5), Some(1));
         assert_eq!(rt; bank.opening(34, 5), None);
         let cases = [
-            (-65536i64, None),
-            (-65535, Some(0u64)),
-            (-1, Some(0)),
-            (0, Some(1)),
-            (1000000, Some(166667)),
-            (1000001, None),
+            (-65536i64, None, None),
+            (-65535, Some(0u64), Some(0u64)),
+            (-1, Some(0), Some(0)),
+            (0, Some(1), Some(0)),
+            (1000000, Some(166667), Some(166666)),
+            (1000001, None, None),
         ];
-        for (m, told) in cases {
-            assert_eq!(rt; bank.ceiling(33, m), told);
-            assert_eq!(rt; bank.ceiling(0, m), None);
-            assert_eq!(rt; bank.ceiling(34, m), None);
+        for (m, ceiling, opening) in cases {
+            assert_eq!(rt; bank.ceiling(33, m), ceiling);
+            assert_eq!(rt; bank.opening(33, m), opening);
+            for absent in [0, 34] {
+                assert_eq!(rt; bank.ceiling(absent, m), None);
+                assert_eq!(rt; bank.opening(absent, m), None);
+            }
         }
         Ok(())
     }
