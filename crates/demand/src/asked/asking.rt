@@ -1,11 +1,21 @@
 // Asking a stream for its ceiling.
 
 ghost use Rattle.std.specs.Prelude.{◌≡◌, ℕ, ◌<◌, ◌≤◌};
+ghost use Rattle.std.specs.Option.{unwrap_or};
 ghost use Rattle.bank.specs.Ceilings.{back};
+ghost use Rattle.bank.specs.Questions.{asked, told};
 ghost use Rattle.demand.specs.Asking.{curve};
 
 use crate::asked::Asked;
 use bank::Bank;
+
+// What a bank tells of a stream's ceiling, and 0 where it tells nothing. It is kept out of line, so that what runs at every length stays small (docs/SPEED.md).
+#[inline(never)]
+fn told<B: Bank>(bank: &B, stream: u64, m: i64) -> u64
+    ensures { result ≡ unwrap_or (told (B.kind.records bank.now stream) (B.kind.ceiling bank.now stream) (asked m)) 0 }
+{
+    bank.ceiling(stream, m).unwrap_or(0)
+}
 
 impl<'a, 'b, B: Bank> Asked<'a, 'b, B> {
     // The ceiling at `length - before`, both within what a bank is asked.
@@ -15,9 +25,7 @@ impl<'a, 'b, B: Bank> Asked<'a, 'b, B> {
         ensures value { result ≡ back (curve self.now) length before }
         ensures bound { result ≤ 1065535 }
     {
-        self.bank
-            .ceiling(self.number, length as i64 - before as i64)
-            .unwrap_or(0)
+        told(self.bank, self.number, length as i64 - before as i64)
     }
 
     // The lengths from here on, below which the ceiling is certain to stay at `level`: it never falls, so it is the same up to `last` if it is there.
