@@ -31,12 +31,7 @@ fn earlier<X: Ranked + Copy>(best: X, item: X) -> X
 pub fn least<X: Ranked + Copy>(items: &[X]) -> Option<X>
     ensures { FirstLeast X.below items.now result }
 {
-    let (first, rest) = items.split_first()?;
-    let mut best = *first;
-    for item in rest {
-        best = earlier(best, *item);
-    }
-    Some(best)
+    items.iter().copied().reduce(earlier)
 }
 
 // The nearest to failing comes first.
