@@ -3,10 +3,9 @@
 use Rattle.std.specs.Prelude.{◌≡◌, ℕ, ◌+◌, min, None, Option, Some}
 use Rattle.stream.specs.declared.limits.Record.{Record}
 use Rattle.bank.specs.Kinds.{Kind}
-use Rattle.join.specs.Routes.{route}
+use Rattle.join.specs.Routes.{Part, route}
 use Rattle.join.specs.declared.Joined.{Joined}
-use Rattle.join.specs.declared.Part.{Part}
-use Rattle.join.specs.declared.Part.TheVariants.{Left, Right}
+use Rattle.either.specs.declared.Either.TheVariants.{Left, Right}
 
 -- where stream i of the join is
 abbrev pub place : {L R : Type 0} → Kind L → Joined L R → ℕ → Option Part

@@ -7,11 +7,10 @@ use Rattle.bank.specs.Ceilings.{Ceiling}
 use Rattle.bank.specs.Kinds.{Kind}
 use Rattle.bank.specs.Laws.{Laws, Same}
 use Rattle.bank.proofs.Windows.{same_self}
-use Rattle.join.specs.Routes.{route}
+use Rattle.join.specs.Routes.{Part, route}
 use Rattle.join.specs.Joins.{joined, place, record_at, count_at, ceiling_at, opening_at, accepts_at}
 use Rattle.join.specs.declared.Joined.{Joined}
-use Rattle.join.specs.declared.Part.{Part}
-use Rattle.join.specs.declared.Part.TheVariants.{Left, Right}
+use Rattle.either.specs.declared.Either.TheVariants.{Left, Right}
 use Rattle.join.specs.RoutesLemmas.{Routed, in_left, in_right, past, where_routed}
 
 none_some : {X : Type 0} (r : Record) → None ≡ Some r → X

@@ -2,9 +2,8 @@
 
 use Rattle.std.specs.Prelude.{ℕ, ◌-◌, ◌<◌, ◌≤◌, cond, nat_le, Some, None, Option}
 use Rattle.std.proofs.lemmas.Bool.{leb-true, leb-false, cond_both}
-use Rattle.join.specs.Routes.{route}
-use Rattle.join.specs.declared.Part.{Part}
-use Rattle.join.specs.declared.Part.TheVariants.{Left, Right}
+use Rattle.join.specs.Routes.{Part, route}
+use Rattle.either.specs.declared.Either.TheVariants.{Left, Right}
 
 pub data Routed (before i : ℕ) : Option Part → Type 0 where
   in_left : i ≤ before → Routed before i (Some (Left i))

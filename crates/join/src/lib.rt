@@ -7,17 +7,11 @@ ghost use Rattle.join.specs.Joins.{joined, place};
 ghost use Rattle.join.specs.JoinsLemmas.{joined_lawful};
 
 use bank::Bank;
+use either::{Either, Left, Right};
 use stream::{MOST_STREAMS, Record, Refusal};
 
 // No bank has more streams than this: one more than are ever admitted, so that too many are seen.
 const MOST: u64 = MOST_STREAMS as u64 + 1;
-
-// Which part has a stream, and the stream's number in that part.
-#[derive(Clone, Copy)]
-enum Part {
-    Left(u64),
-    Right(u64),
-}
 
 // Two banks by value. A join of joins is a bank like any other.
 #[derive(Drop)]
@@ -43,15 +37,15 @@ impl<L: Bank, R: Bank> Joined<L, R> {
         (left, right)
     }
 
-    // The one place that turns a stream's number into that of a part.
-    fn route(&self, stream: u64) -> Option<Part>
+    // Which part has a stream, and the stream's number in that part.
+    fn route(&self, stream: u64) -> Option<Either<u64, u64>>
         ensures { result ≡ place L.Bank.kind self.now stream }
     {
         let before = self.left.streams();
         if stream <= before {
-            Some(Part::Left(stream))
+            Some(Left(stream))
         } else if stream <= MOST {
-            Some(Part::Right(stream - before))
+            Some(Right(stream - before))
         } else {
             None
         }
@@ -76,29 +70,29 @@ impl<L: Bank, R: Bank> Bank for Joined<L, R> {
     // This and the next three ask one question of two types of bank; a function of them would take two closures each time.
     fn record_of(&self, stream: u64) -> Option<Record> {
         match self.route(stream)? {
-            Part::Left(at) => self.left.record_of(at),
-            Part::Right(at) => self.right.record_of(at),
+            Left(at) => self.left.record_of(at),
+            Right(at) => self.right.record_of(at),
         }
     }
 
     fn count(&self, stream: u64) -> Option<u64> {
         match self.route(stream)? {
-            Part::Left(at) => self.left.count(at),
-            Part::Right(at) => self.right.count(at),
+            Left(at) => self.left.count(at),
+            Right(at) => self.right.count(at),
         }
     }
 
     fn ceiling(&self, stream: u64, m: i64) -> Option<u64> {
         match self.route(stream)? {
-            Part::Left(at) => self.left.ceiling(at, m),
-            Part::Right(at) => self.right.ceiling(at, m),
+            Left(at) => self.left.ceiling(at, m),
+            Right(at) => self.right.ceiling(at, m),
         }
     }
 
     fn opening(&self, stream: u64, m: i64) -> Option<u64> {
         match self.route(stream)? {
-            Part::Left(at) => self.left.opening(at, m),
-            Part::Right(at) => self.right.opening(at, m),
+            Left(at) => self.left.opening(at, m),
+            Right(at) => self.right.opening(at, m),
         }
     }
 
@@ -114,8 +108,8 @@ impl<L: Bank, R: Bank> Bank for Joined<L, R> {
 
     fn accept(&mut self, stream: u64) -> Result<(), Refusal> {
         match self.route(stream).ok_or(Refusal::NoSuchStream)? {
-            Part::Left(at) => self.left.accept(at),
-            Part::Right(at) => self.right.accept(at),
+            Left(at) => self.left.accept(at),
+            Right(at) => self.right.accept(at),
         }
     }
 }
