@@ -21,17 +21,28 @@ enum Gate {
     Shut,
 }
 
-// While the gate is shut no release is accepted. It is shut for one tick after each `every` ticks, and never if that is 0.
+impl Gate {
+    // A tick later, where the gate is shut for one tick after each `every` ticks.
+    fn ticked(self, every: u64) -> Gate {
+        match self {
+            Gate::Open(passed) if passed < every => Gate::Open(passed + 1),
+            Gate::Open(_) => Gate::Shut,
+            Gate::Shut => Gate::Open(1),
+        }
+    }
+}
+
+// While the gate is shut no release is accepted. It is shut for one tick after each `every` ticks, or never.
 #[derive(Drop)]
 pub struct Gated<B> {
     inner: B,
     gate: Gate,
-    every: u64,
+    every: Option<u64>,
 }
 
 impl<B: Bank> Gated<B> {
     // The gate is open at first.
-    pub fn new(inner: B, every: u64) -> Self
+    pub fn new(inner: B, every: Option<u64>) -> Self
         ensures inner { result.inner ≡ inner }
         ensures gate { result.gate ≡ Gate.Open 0 }
         ensures every { result.every ≡ every }
@@ -47,12 +58,9 @@ impl<B: Bank> Gated<B> {
     fn move_gate(&mut self)
         ensures { self.new.inner ≡ self.old.inner }
     {
-        self.gate = match self.gate {
-            Gate::Open(passed) if passed < self.every => Gate::Open(passed + 1),
-            Gate::Open(_) if self.every > 0 => Gate::Shut,
-            Gate::Open(passed) => Gate::Open(passed),
-            Gate::Shut => Gate::Open(1),
-        };
+        if let Some(every) = self.every {
+            self.gate = self.gate.ticked(every);
+        }
     }
 }
 
