@@ -2,7 +2,7 @@
 
 use Rattle.std.proofs.Common.{◌≡◌, ℕ, Some, None, Ok, Err, Option, Result, refl, ap, IsErrAnd}
 use Rattle.std.specs.Option.{ok_or}
-use Rattle.stream.specs.Faults.{placed}
+use Rattle.stream.specs.Faults.{placed, whole_line}
 use Rattle.stream.specs.declared.Fault.{Fault}
 use Rattle.stream.specs.declared.Layer.{Layer}
 use Rattle.stream.specs.declared.Refusal.{Refusal}
@@ -18,7 +18,7 @@ module _ {X : Type 0} (layer : Layer) (line : ℕ) where
   placed_ok (Ok y) x e = cc
   placed_ok (Err f) x e = cc
 
-  pub placed_err : (answer : Result X Refusal) (fault : Fault) → placed answer layer line ≡ Err fault → (answer ≡ Err fault.refusal) × (fault ≡ record { refusal = fault.refusal; layer = layer; line = line; byte = 0 })
+  pub placed_err : (answer : Result X Refusal) (fault : Fault) → placed answer layer line ≡ Err fault → (answer ≡ Err fault.refusal) × (fault ≡ whole_line fault.refusal layer line)
   placed_err (Ok y) fault e = let no : ⊥ = cc in absurd no
   placed_err (Err f) fault e = (cc, (cc))
 

@@ -2,7 +2,9 @@
 
 use Rattle.std.proofs.Common.{◌≡◌, ℕ, List, length, Some, None, Ok, Err, Option, Result, ap}
 use Rattle.std.proofs.lemmas.List.{nil_from_length}
+use Rattle.stream.specs.Faults.{whole_line}
 use Rattle.stream.specs.declared.Fault.{Fault}
+use Rattle.stream.specs.declared.Layer.TheVariants.{Plan}
 use Rattle.stream.specs.declared.Refusal.{Refusal}
 use Rattle.text.specs.Reader.{bytes_left, line_number, LineRead, LineRefused, RefusedBy}
 use Rattle.text.specs.declared.line.Line.{Line}
@@ -10,7 +12,7 @@ use Rattle.text.specs.declared.line.Line.TheVariants.{Go}
 use Rattle.text.specs.declared.reader.Reader.{Reader}
 use Rattle.plan.specs.declared.reading.Start.{Start}
 use Rattle.plan.specs.declared.tables.Tables.{Tables}
-use Rattle.plan.specs.Plans.{Rows, rows_in, Added, Misshapen, Planned, ended, go, misshapen, refused, more, plan_fault}
+use Rattle.plan.specs.Plans.{Rows, rows_in, Added, Misshapen, Planned, ended, go, misshapen, refused, more}
 
 -- the first byte that no line of the form has there
 pub misshapen_by : {form : List ℕ → Type 0} {before later : Reader} {fault : Fault} → RefusedBy form before fault later → Misshapen form (bytes_left before) (line_number before) fault
@@ -36,7 +38,7 @@ module _ (before later : Reader) (rows : Rows) where
   pub plan_go : (moment : ℕ) → LineRead before (Go moment) later → Planned (bytes_left before) (line_number before) rows (Ok (Some (record { moment = moment; line = line_number before }))) (bytes_left later) (line_number later) rows
   plan_go moment read = simp read.next (go read.valid read.whole)
 
-  pub plan_refused : (e : Refusal) {answer : Result (Unit {0}) Refusal} {next : Rows} → Read before later rows answer next → answer ≡ Err e → Planned (bytes_left before) (line_number before) rows (Err (plan_fault e (line_number before))) (bytes_left later) (line_number later) next
+  pub plan_refused : (e : Refusal) {answer : Result (Unit {0}) Refusal} {next : Rows} → Read before later rows answer next → answer ≡ Err e → Planned (bytes_left before) (line_number before) rows (Err (whole_line e Plan (line_number before))) (bytes_left later) (line_number later) next
   plan_refused e read is = simp read.line.next (refused read.stream read.line.valid read.line.whole (rw is at read.added))
 
   pub plan_more : {added : Result (Unit {0}) Refusal} {next : Rows} → Read before later rows added next → added ≡ Ok tt → (answer : Result (Option Start) Fault) (last : List ℕ) (end : ℕ) (final : Rows) → Planned (bytes_left later) (line_number later) next answer last end final → Planned (bytes_left before) (line_number before) rows answer last end final

@@ -1,6 +1,7 @@
 -- How a plan is opened: it is read up to its go line, and the join of its tables is started there.
 
 use Rattle.std.specs.Prelude.{◌≡◌, ℕ, cond, List, Some, None, Ok, Err, nat_lt}
+use Rattle.stream.specs.Faults.{whole_line}
 use Rattle.stream.specs.declared.Fault.{Fault}
 use Rattle.stream.specs.declared.Layer.{Layer}
 use Rattle.stream.specs.declared.Layer.TheVariants.{Demand, Engine}
@@ -21,7 +22,7 @@ start_layer moment = cond (nat_lt last_moment moment) Engine Demand
 pub data Unopened (text : List ℕ) (line : ℕ) (rows : Rows) : Fault → Type 0 where
   unread : {fault : Fault} {rest : List ℕ} {end : ℕ} {read : Rows} → Planned text line rows (Err fault) rest end read → Unopened text line rows fault
   endless : {rest : List ℕ} {end : ℕ} {read : Rows} → Planned text line rows (Ok None) rest end read → Unopened text line rows (out_of_shape end 1)
-  shut : {start : Start} {rest : List ℕ} {end : ℕ} (bank b : PlanBank) (s : State) (e : Refusal) → Planned text line rows (Ok (Some start)) rest end (rows_in (tables_of bank)) → Started plan_kind bank start.moment b s → s.verdict ≡ Err e → Unopened text line rows (record { refusal = e; layer = start_layer start.moment; line = start.line; byte = 0 })
+  shut : {start : Start} {rest : List ℕ} {end : ℕ} (bank b : PlanBank) (s : State) (e : Refusal) → Planned text line rows (Ok (Some start)) rest end (rows_in (tables_of bank)) → Started plan_kind bank start.moment b s → s.verdict ≡ Err e → Unopened text line rows (whole_line e (start_layer start.moment) start.line)
 
 -- The plan is read up to its go line, and the join of its tables is started there and accepted: the verdict, the bank and the worker, of which no run is late, and what is left of the text.
 pub record Opened (text : List ℕ) (line : ℕ) (rows : Rows) (verdict : Verdict) (b : PlanBank) (s : State) (rest : List ℕ) (end : ℕ) : Type 0 where

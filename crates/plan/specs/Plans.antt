@@ -1,6 +1,7 @@
 -- How a plan is read: stream lines, each looked at whole and tested before the next is looked at, up to a go line or the end of the text.
 
 use Rattle.std.specs.Prelude.{◌≡◌, ℕ, ◌+◌, ◌<◌, ◌≤◌, List, [], ◌∷◌, ◌++◌, length, Some, None, Ok, Err, Option, Result, ◌≢◌}
+use Rattle.stream.specs.Faults.{whole_line}
 use Rattle.stream.specs.Making.{Made}
 use Rattle.stream.specs.declared.Fault.{Fault}
 use Rattle.stream.specs.declared.Layer.TheVariants.{Plan}
@@ -21,10 +22,6 @@ use Rattle.text.specs.declared.line.Line.{Line}
 use Rattle.text.specs.declared.line.Line.TheVariants.{Sporadic, Raster, Go}
 use Rattle.plan.specs.declared.reading.Start.{Start}
 use Rattle.plan.specs.declared.tables.Tables.{Tables}
-
--- a refusal of the plan at a line
-abbrev pub plan_fault : Refusal → ℕ → Fault
-plan_fault e line = record { refusal = e; layer = Plan; line = line; byte = 0 }
 
 -- The streams of a plan as far as it is read: the sporadic ones, and those on a raster with their phases.
 pub record Rows : Type 0 where
@@ -90,5 +87,5 @@ pub data Planned : List ℕ → ℕ → Rows → Result (Option Start) Fault →
   ended : {line : ℕ} {rows : Rows} → Planned [] line rows (Ok None) [] line rows
   go : {text rest : List ℕ} {line moment : ℕ} {rows : Rows} → Valid (Go moment) → text ≡ render (Go moment) ++ rest → Planned text line rows (Ok (Some (record { moment = moment; line = line }))) rest (line + 1) rows
   misshapen : {text : List ℕ} {line : ℕ} {rows : Rows} {fault : Fault} → (text ≢ []) → Misshapen LineForm text line fault → Planned text line rows (Err fault) text line rows
-  refused : {text rest : List ℕ} {line : ℕ} {rows next : Rows} {e : Refusal} (stream : Line) → Valid stream → text ≡ render stream ++ rest → Added rows stream (Err e) next → Planned text line rows (Err (plan_fault e line)) rest (line + 1) next
+  refused : {text rest : List ℕ} {line : ℕ} {rows next : Rows} {e : Refusal} (stream : Line) → Valid stream → text ≡ render stream ++ rest → Added rows stream (Err e) next → Planned text line rows (Err (whole_line e Plan line)) rest (line + 1) next
   more : {text rest last : List ℕ} {line end : ℕ} {rows next final : Rows} {answer : Result (Option Start) Fault} (stream : Line) → Valid stream → text ≡ render stream ++ rest → Added rows stream (Ok tt) next → Planned rest (line + 1) next answer last end final → Planned text line rows answer last end final

@@ -1,6 +1,7 @@
 -- What one line of a script does to a worker and its bank, and what is answered.
 
 use Rattle.std.specs.Prelude.{◌≡◌, ℕ, Bool, Some, None, Ok, Err, Option, Result}
+use Rattle.stream.specs.Faults.{whole_line}
 use Rattle.stream.specs.declared.Layer.TheVariants.{Engine}
 use Rattle.stream.specs.declared.Refusal.{Refusal}
 use Rattle.bank.specs.Kinds.{Kind}
@@ -14,7 +15,7 @@ use Rattle.text.specs.declared.call.Call.TheVariants.{Release, Turn, Calm}
 
 -- a call is refused at its line
 abbrev pub refused_at : ℕ → Refusal → Answer
-refused_at line e = Refused (record { refusal = e; layer = Engine; line = line; byte = 0 })
+refused_at line e = Refused (whole_line e Engine line)
 
 -- a call tells what it gave, unless it was refused
 abbrev pub telling : {X : Type 0} → (X → Answer) → Result X Refusal → Result Answer Refusal

@@ -1,7 +1,7 @@
 -- How a plan is judged, once it is read.
 
 use Rattle.std.specs.Prelude.{◌≡◌, ℕ, ◌<◌, ◌≤◌, List, map, Some, None, Ok, Err, Result}
-use Rattle.stream.specs.Faults.{placed}
+use Rattle.stream.specs.Faults.{placed, whole_line}
 use Rattle.stream.specs.declared.Fault.{Fault}
 use Rattle.stream.specs.declared.Layer.TheVariants.{Demand, Engine}
 use Rattle.stream.specs.declared.Refusal.{Refusal}
@@ -26,5 +26,5 @@ pub record Begun (rows : Rows) (moment : ℕ) (bank : PlanBank) : Type 0 where
 pub data Opened (text : List ℕ) (line : ℕ) (rows : Rows) : Result Verdict Fault → List ℕ → ℕ → Type 0 where
   unread : {fault : Fault} {rest : List ℕ} {end : ℕ} {read : Rows} → Planned text line rows (Err fault) rest end read → Opened text line rows (Err fault) rest end
   endless : {rest : List ℕ} {end : ℕ} {read : Rows} → Planned text line rows (Ok None) rest end read → Opened text line rows (Err (out_of_shape end 1)) rest end
-  late : {start : Start} {rest : List ℕ} {end : ℕ} {read : Rows} → Planned text line rows (Ok (Some start)) rest end read → last_moment < start.moment → Opened text line rows (Err (record { refusal = MomentTooLate; layer = Engine; line = start.line; byte = 0 })) rest end
+  late : {start : Start} {rest : List ℕ} {end : ℕ} {read : Rows} → Planned text line rows (Ok (Some start)) rest end read → last_moment < start.moment → Opened text line rows (Err (whole_line MomentTooLate Engine start.line)) rest end
   tested : {start : Start} {rest : List ℕ} {end : ℕ} {read : Rows} (bank : PlanBank) (answer : Result Verdict Refusal) → Planned text line rows (Ok (Some start)) rest end read → start.moment ≤ last_moment → Begun read start.moment bank → Judged plan_kind bank answer → Opened text line rows (placed answer Demand start.line) rest end
