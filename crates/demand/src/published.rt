@@ -6,34 +6,43 @@ ghost use Rattle.demand.specs.Published.{ShareTold, closed, deducted};
 use crate::{FARTHEST, slack};
 use stream::{Class, Record};
 
-// What a carried-over job must have done by then.
-fn deduction(stream: Record, length: u64) -> u64
-    ensures { result ≡ deducted stream.row length }
-{
-    let row = stream.row();
-    let slack = slack(&row);
-    let rest = length % row.gap;
-    if slack <= rest && rest < row.deadline {
-        (row.budget + slack).saturating_sub(rest)
-    } else {
-        0
-    }
+// A stream at a length that is judged.
+#[derive(Drop)]
+struct At {
+    stream: Record,
+    length: u64,
+    ghost near: { length ≤ 1000000 },
 }
 
-fn closed_share(stream: Record, length: u64) -> u64
-    requires { length ≤ 1000000 }
-    ensures { result ≡ closed stream.row length }
-{
-    let row = stream.row();
-    match row.class {
-        Class::Background => 0,
-        Class::Critical => {
-            let slack = slack(&row);
-            if length < slack {
-                return 0;
+impl At {
+    // What a carried-over job must have done by then.
+    fn deduction(&self) -> u64
+        ensures { result ≡ deducted self.now.stream.row self.now.length }
+    {
+        let row = self.stream.row();
+        let slack = slack(&row);
+        let rest = self.length % row.gap;
+        if slack <= rest && rest < row.deadline {
+            (row.budget + slack).saturating_sub(rest)
+        } else {
+            0
+        }
+    }
+
+    fn share(&self) -> u64
+        ensures { result ≡ closed self.now.stream.row self.now.length }
+    {
+        let row = self.stream.row();
+        match row.class {
+            Class::Background => 0,
+            Class::Critical => {
+                let slack = slack(&row);
+                if self.length < slack {
+                    return 0;
+                }
+                let releases = (self.length - slack) / row.gap + 1;
+                (releases * row.certain).saturating_sub(self.deduction())
             }
-            let releases = (length - slack) / row.gap + 1;
-            (releases * row.certain).saturating_sub(deduction(stream, length))
         }
     }
 }
@@ -46,5 +55,5 @@ pub fn sporadic_share(stream: Record, length: u64) -> Option<u64>
     if length > FARTHEST {
         return None;
     }
-    Some(closed_share(stream, length))
+    Some(At { stream, length }.share())
 }
