@@ -16,7 +16,7 @@ pub(crate) struct Followed<M> {
     memory: M,
 }
 
-// A place that no stream has yet.
+// A place that no stream has yet. Not derived: that would give rows a default, and 0 keeps none of their limits.
 impl<M: Memory> Default for Followed<M> {
     fn default() -> Followed<M> {
         Followed {

@@ -60,6 +60,7 @@ impl Timed for OnRaster {
         wait.checked_sub(1).unwrap_or(self.record.row().gap - 1)
     }
 
+    // Field by field, since Rattle has no `..*self` of a struct with a ghost field.
     fn with_record(&self, other: Record) -> OnRaster {
         OnRaster {
             record: other,
