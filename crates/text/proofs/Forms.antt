@@ -58,9 +58,11 @@ leaves_by_first L M s n to only l = record {
 pub leaves_same : (L M : List ℕ → Type 0) (s : List ℕ) (n : ℕ) → ((w : List ℕ) → L w → M w) → ((w : List ℕ) → M w → L w) → Leaves L s n → Leaves M s n
 leaves_same L M s n to from l = leaves_by_first L M s n to (λ w m _. from w m) l
 
--- of a form whose words are of a kind that their first byte tells, the text leaves the kind where it leaves the form
-pub leaves_kind : (M : List ℕ → Type 0) (Kind : Option ℕ → List ℕ → Type 0) → ((w : List ℕ) → M w → Kind (slice_get w 0) w) → (first : Option ℕ) (s : List ℕ) (n : ℕ) → slice_get s 0 ≡ first → ((w : List ℕ) → Kind first w → M w) → Leaves (Kind first) s n → Leaves M s n
-leaves_kind M Kind kind first s n is to l = leaves_by_first (Kind first) M s n to (λ w m h. subst (λ (o : Option ℕ). Kind o w) (h ∙ is) (kind w m)) l
+-- of a form whose values are of a kind that their first byte tells, the text leaves the kind where it leaves the form
+pub leaves_kind : {V : Type 0} (bytes : V → List ℕ) (Good : V → Type 0) (Kind : Option ℕ → List ℕ → Type 0) → ((v : V) → Good v → Kind (slice_get (bytes v) 0) (bytes v)) → (first : Option ℕ) (s : List ℕ) (n : ℕ) → slice_get s 0 ≡ first → ((w : List ℕ) → Kind first w → Form bytes Good w) → Leaves (Kind first) s n → Leaves (Form bytes Good) s n
+leaves_kind bytes Good Kind kind first s n is to l =
+    leaves_by_first (Kind first) (Form bytes Good) s n to
+    (λ w m h. subst (λ (o : Option ℕ). Kind o w) (h ∙ is) (subst (λ (x : List ℕ). Kind (slice_get x 0) x) (sym m.2) (kind m.0 m.1))) l
 
 pub leaves_first : (L M : List ℕ → Type 0) (s : List ℕ) (n : ℕ) (m : List ℕ) → Apart L → M m → Leaves L s n → Leaves (Then L M) s n
 leaves_first L M s n m apart in_m l =
@@ -99,9 +101,10 @@ leaves_second L M s u t n apart in_u e l =
     }
 
 -- the very first byte begins no word
-pub leaves_here : (L : List ℕ → Type 0) (s : List ℕ) (n b : ℕ) (z : List ℕ) → L (b ∷ z) → ((w : List ℕ) → L w → slice_get w 0 ≡ slice_get s 0 → ⊥) → n ≡ length s → Leaves L s n
-leaves_here L s n b z word none count =
-    let others : (c : ℕ) (more w : List ℕ) → s ≡ c ∷ more → L (c ∷ w) → ⊥ = λ c more w e m. none (c ∷ w) m (ap (λ (x : List ℕ). slice_get x 0) (sym e)) in
+pub leaves_here : {V : Type 0} (bytes : V → List ℕ) (Good : V → Type 0) (s : List ℕ) (n b : ℕ) (z : List ℕ) → Form bytes Good (b ∷ z) → ((v : V) → Good v → slice_get s 0 ≢ slice_get (bytes v) 0) → n ≡ length s → Leaves (Form bytes Good) s n
+leaves_here bytes Good s n b z word none count =
+    let first : List ℕ → Option ℕ = λ x. slice_get x 0 in
+    let others : (c : ℕ) (more w : List ℕ) → s ≡ c ∷ more → Form bytes Good (c ∷ w) → ⊥ = λ c more w e m. none m.0 m.1 (ap first e ∙ ap first m.2) in
     record { read = []; unread = s; whole = refl; count = sym count; halts = record { due = (b, z, word); dead = others } }
 
 -- the byte at i of the bytes that are due does not come
@@ -147,3 +150,20 @@ module _ {V : Type 0} (bytes : V → List ℕ) (Good : V → Type 0) (same : (v 
 
   pub form_stays : (s : List ℕ) (v : V) (more : List ℕ) (k : ℕ) → Good v → s ≡ bytes v ++ more → Leaves (Form bytes Good) s k → ⊥
   form_stays s v more k g e left = stays (Form bytes Good) s (bytes v) more k apart_form (v, g, refl) e left
+
+-- The first byte of a value's bytes tells the value.
+pub record Told {V : Type 0} (bytes : V → List ℕ) : Type 0 where
+  pub value : Option ℕ → V
+  pub tells : (v : V) (more : List ℕ) → value (slice_get (bytes v ++ more) 0) ≡ v
+
+module _ {V : Type 0} {bytes : V → List ℕ} (told : Told bytes) where
+  pub same_value : (v w : V) (x y : List ℕ) → bytes v ++ x ≡ bytes w ++ y → (v ≡ w) × (x ≡ y)
+  same_value v w x y e =
+      let same : v ≡ w = sym (told.tells v x) ∙ ap (λ (t : List ℕ). told.value (slice_get t 0)) e ∙ told.tells w y in
+      (same, append_cancel_left (bytes w) x y (ap (λ (u : V). bytes u ++ x) (sym same) ∙ e))
+
+  -- the text leaves the one word that begins as it does where it leaves the form
+  pub leaves_told : (s : List ℕ) (n : ℕ) → Leaves (Exactly (bytes (told.value (slice_get s 0)))) s n → Leaves (Form bytes (λ _. Unit {0})) s n
+  leaves_told s n =
+      leaves_by_first (Exactly (bytes (told.value (slice_get s 0)))) (Form bytes (λ _. Unit {0})) s n (λ w e. (told.value (slice_get s 0), tt, e))
+      (λ w m h. m.2 ∙ ap bytes (sym (told.tells m.0 []) ∙ ap told.value (simp append-nil (ap (λ (x : List ℕ). slice_get x 0) (sym m.2) ∙ h))))

@@ -1,14 +1,13 @@
 -- The form of a row, taken apart into its words and fields, and where a text leaves it.
 
-use Rattle.std.proofs.Common.{Some, None, cond, ◌≡◌, ℕ, ◌<◌, false, eqb, ◌≢◌, List, [], ◌∷◌, ◌++◌, length, get_or, slice_get, Option, codes, decimal, sym, refl, ap, ◌∙◌, subst, append_assoc, lit<}
+use Rattle.std.proofs.Common.{◌≡◌, ℕ, ◌<◌, ◌≢◌, List, [], ◌∷◌, ◌++◌, length, get_or, slice_get, Option, Some, None, cond, eqb, codes, decimal, sym, refl, ap, ◌∙◌, subst, append_assoc, lit<}
 use Rattle.stream.specs.declared.Class.{Class}
 use Rattle.stream.specs.declared.Class.TheVariants.{Critical, Background}
 use Rattle.stream.specs.declared.Row.{Row}
 use Rattle.text.specs.Lines.{class_letter, row_bytes, SmallRow}
-use Rattle.std.proofs.lemmas.Bool.{eqb-false}
 use Rattle.text.specs.Reading.{closed}
 use Rattle.text.specs.Words.{Form, Exactly, Small, Leaves}
-use Rattle.text.proofs.Forms.{Apart, Then, apart_exactly, apart_form, leaves_same, leaves_first, leaves_second, leaves_kind, leaves_here}
+use Rattle.text.proofs.Forms.{Apart, Then, apart_exactly, apart_form, leaves_same, leaves_first, leaves_second, leaves_kind, leaves_here, Told, leaves_told, same_value}
 use Rattle.text.proofs.Numerals.{Field, apart_field}
 
 abbrev pub ClassForm : List ℕ → Type 0
@@ -33,44 +32,20 @@ after_field {M} {s} {t} {k} close n low e l = leaves_second (Field close) M s (d
 
 -- ---- the class
 
--- texts that differ at a place are not the same
-pub differ : {X : Type 0} {s t : List ℕ} (i : ℕ) → s ≡ t → eqb (get_or s i 0) (get_or t i 0) ≡ false → X
-differ i e apart = absurd (eqb-false _ _ apart (ap (λ (l : List ℕ). get_or l i 0) e))
-
-pub same_class : (k l : Class) (x y : List ℕ) → class_letter k ++ x ≡ class_letter l ++ y → (k ≡ l) × (x ≡ y)
-same_class Critical Critical x y e = (refl, (cc))
-same_class Critical Background x y e = differ 0 e refl
-same_class Background Critical x y e = differ 0 e refl
-same_class Background Background x y e = (refl, (cc))
+abbrev pub class_told : Told class_letter
+class_told = record { value = elim [ None ↦ Background | Some b ↦ cond (eqb b 72) Critical Background ]; tells = elim [ Critical ↦ λ _. refl | Background ↦ λ _. refl ] }
 
 apart_class : Apart ClassForm
-apart_class = apart_form class_letter (λ _. Unit {0}) (λ k l x y _ _ e. (same_class k l x y e).0)
+apart_class = apart_form class_letter (λ _. Unit {0}) (λ k l x y _ _ e. (same_value class_told k l x y e).0)
 
--- the letter tells the class
-abbrev ClassKind : Option ℕ → List ℕ → Type 0
-ClassKind None = λ w. ⊥
-ClassKind (Some b) = cond (eqb b 72) (Exactly (codes "H")) (cond (eqb b 76) (Exactly (codes "L")) (λ w. ⊥))
+pub class_begun : (s : List ℕ) (k : ℕ) → Leaves (Exactly (class_letter (class_told.value (slice_get s 0)))) s k → Leaves ClassForm s k
+class_begun = leaves_told class_told
 
-class_kind : (w : List ℕ) → ClassForm w → ClassKind (slice_get w 0) w
-class_kind w (Critical, v, f) = subst (λ (x : List ℕ). ClassKind (slice_get x 0) x) (sym f) refl
-class_kind w (Background, v, f) = subst (λ (x : List ℕ). ClassKind (slice_get x 0) x) (sym f) refl
-
-module _ (s : List ℕ) (k : ℕ) where
-  pub class_critical : slice_get s 0 ≡ Some 72 → Leaves (Exactly (codes "H")) s k → Leaves ClassForm s k
-  class_critical is l = leaves_kind ClassForm ClassKind class_kind _ s k is (λ w r. (Critical, tt, r)) l
-
-  pub class_background : slice_get s 0 ≡ Some 76 → Leaves (Exactly (codes "L")) s k → Leaves ClassForm s k
-  class_background is l = leaves_kind ClassForm ClassKind class_kind _ s k is (λ w r. (Background, tt, r)) l
-
-  pub class_none : slice_get s 0 ≢ Some 72 → slice_get s 0 ≢ Some 76 → k ≡ length s → Leaves ClassForm s k
-  class_none critical background count = leaves_here ClassForm s k 76 [] (Background, tt, refl) none count
-    where
-      none : (w : List ℕ) → ClassForm w → slice_get w 0 ≡ slice_get s 0 → ⊥
-      none w (Critical, v, f) h = critical (sym h ∙ ap (λ (x : List ℕ). slice_get x 0) f)
-      none w (Background, v, f) h = background (sym h ∙ ap (λ (x : List ℕ). slice_get x 0) f)
+pub class_none : (s : List ℕ) (k : ℕ) → slice_get s 0 ≢ Some 72 → slice_get s 0 ≢ Some 76 → k ≡ length s → Leaves ClassForm s k
+class_none s k critical background = leaves_here class_letter (λ _. Unit {0}) s k 76 [] (Background, tt, refl) (elim [ Critical ↦ λ _. critical | Background ↦ λ _. background ])
 
 -- where a class letter goes out of shape
-pub ruleset class_ends = (class_critical, class_background, class_none)
+pub ruleset class_ends = (class_begun, class_none)
 
 -- ---- a word in front of a form
 
@@ -99,11 +74,11 @@ module _ {V : Type 0} (item : V → List ℕ) (Good : V → Type 0) (s t : List 
   after_bracket : Leaves (Form item Good) t k → Leaves (Form (λ v. codes "(" ++ item v) Good) s k
   after_bracket l = after_prefix (codes "(") item Good s t k e l
 
-  pub of_kind : (Kind : Option ℕ → List ℕ → Type 0) → ((w : List ℕ) → Form item Good w → Kind (slice_get w 0) w) → (first : Option ℕ) → ((w : List ℕ) → Kind first w → Form item Good w) → slice_get t 0 ≡ first → Leaves (Kind first) t k → Leaves (Form (λ v. codes "(" ++ item v) Good) s k
-  of_kind Kind kind first to is l = after_bracket (leaves_kind (Form item Good) Kind kind first t k is to l)
+  pub of_kind : (Kind : Option ℕ → List ℕ → Type 0) → ((v : V) → Good v → Kind (slice_get (item v) 0) (item v)) → (first : Option ℕ) → ((w : List ℕ) → Kind first w → Form item Good w) → slice_get t 0 ≡ first → Leaves (Kind first) t k → Leaves (Form (λ v. codes "(" ++ item v) Good) s k
+  of_kind Kind kind first to is l = after_bracket (leaves_kind item Good Kind kind first t k is to l)
 
-  pub of_none : (b : ℕ) (w : List ℕ) → Form item Good (b ∷ w) → ((w : List ℕ) → Form item Good w → slice_get w 0 ≡ slice_get t 0 → ⊥) → k ≡ length t → Leaves (Form (λ v. codes "(" ++ item v) Good) s k
-  of_none b w some none count = after_bracket (leaves_here (Form item Good) t k b w some none count)
+  pub of_none : (b : ℕ) (w : List ℕ) → Form item Good (b ∷ w) → ((v : V) → Good v → slice_get t 0 ≢ slice_get (item v) 0) → k ≡ length t → Leaves (Form (λ v. codes "(" ++ item v) Good) s k
+  of_none b w some none count = after_bracket (leaves_here item Good t k b w some none count)
 
 -- ---- the row, up to the bytes that close it
 

@@ -1,8 +1,9 @@
 -- The form of a line: one bracket, and then one of the kinds, which begin apart.
 
-use Rattle.std.proofs.Common.{◌≡◌, ℕ, List, [], ◌++◌, ◌≢◌, length, slice_get, Option, Some, None, cond, eqb, subst, codes, decimal, sym, refl, ap, ◌∙◌, lit<}
+use Rattle.std.proofs.Common.{◌≡◌, ℕ, List, [], ◌++◌, ◌≢◌, length, slice_get, Option, Some, None, cond, eqb, codes, decimal, refl, ◌∙◌, lit<}
 use Rattle.stream.specs.declared.Class.TheVariants.{Critical}
 use Rattle.stream.specs.declared.Row.{Row}
+use Rattle.text.specs.declared.line.Line.{Line}
 use Rattle.text.specs.declared.line.Line.TheVariants.{Sporadic, Raster, Go}
 use Rattle.text.specs.Lines.{row_bytes, sporadic_bytes, phased_bytes, raster_bytes, item_bytes, SmallRow, SmallPhased, Valid, LineForm}
 use Rattle.text.specs.Reading.{closed}
@@ -58,9 +59,6 @@ after_numbered word s t k e l = after_prefix word (closed (codes ")\n")) Small s
 
 -- ---- the line
 
-abbrev ItemForm : List ℕ → Type 0
-ItemForm = Form item_bytes Valid
-
 pub at_line : (s : List ℕ) (k : ℕ) → Leaves (Exactly (codes "(")) s k → Leaves LineForm s k
 at_line s k l = at_prefix (codes "(") item_bytes Valid s k (Go 0) zero_small l
 
@@ -69,10 +67,10 @@ abbrev ItemKind : Option ℕ → List ℕ → Type 0
 ItemKind None = λ w. ⊥
 ItemKind (Some b) = cond (eqb b 83) SporadicForm (cond (eqb b 82) RasterForm (cond (eqb b 103) MomentForm (λ w. ⊥)))
 
-item_kind : (w : List ℕ) → ItemForm w → ItemKind (slice_get w 0) w
-item_kind w (Sporadic r, v, f) = subst (λ (x : List ℕ). ItemKind (slice_get x 0) x) (sym f) (r, v, refl)
-item_kind w (Raster r p, v, f) = subst (λ (x : List ℕ). ItemKind (slice_get x 0) x) (sym f) ((r, p), v, refl)
-item_kind w (Go m, v, f) = subst (λ (x : List ℕ). ItemKind (slice_get x 0) x) (sym f) (m, v, refl)
+item_kind : (l : Line) → Valid l → ItemKind (slice_get (item_bytes l) 0) (item_bytes l)
+item_kind (Sporadic r) v = (r, v, refl)
+item_kind (Raster r p) v = ((r, p), v, refl)
+item_kind (Go m) v = (m, v, refl)
 
 module _ (s t : List ℕ) (k : ℕ) (e : s ≡ codes "(" ++ t) where
   pub line_sporadic : slice_get t 0 ≡ Some 83 → Leaves SporadicForm t k → Leaves LineForm s k
@@ -98,12 +96,7 @@ module _ (s t : List ℕ) (k : ℕ) (e : s ≡ codes "(" ++ t) where
   moment_number {u} is f l = line_moment is (after_numbered (codes "go ") t u k f l)
 
   pub line_kind : slice_get t 0 ≢ Some 83 → slice_get t 0 ≢ Some 82 → slice_get t 0 ≢ Some 103 → k ≡ length t → Leaves LineForm s k
-  line_kind sporadic raster moment = of_none item_bytes Valid s t k e 103 _ (Go 0, zero_small, refl) none
-    where
-      none : (w : List ℕ) → ItemForm w → slice_get w 0 ≡ slice_get t 0 → ⊥
-      none w (Sporadic r, v, f) h = sporadic (sym h ∙ ap (λ (x : List ℕ). slice_get x 0) f)
-      none w (Raster r p, v, f) h = raster (sym h ∙ ap (λ (x : List ℕ). slice_get x 0) f)
-      none w (Go m, v, f) h = moment (sym h ∙ ap (λ (x : List ℕ). slice_get x 0) f)
+  line_kind sporadic raster moment = of_none item_bytes Valid s t k e 103 _ (Go 0, zero_small, refl) (elim [ Sporadic r ↦ λ _. sporadic | Raster r p ↦ λ _. raster | Go m ↦ λ _. moment ])
 
 -- where each part of a line goes out of shape
 pub ruleset line_ends = (at_line, line_sporadic, at_sporadic, sporadic_row, line_raster, at_raster, raster_row, line_moment, at_numbered, moment_number, line_kind)

@@ -1,18 +1,19 @@
 -- Digits at the front of a text, the number that they write, and where a text leaves the form of a number.
 
-use Rattle.std.proofs.Common.{◌≡◌, ℕ, zero, suc, ◌+◌, ◌-◌, ◌*◌, ◌^◌, ◌<◌, ◌≤◌, ◌⊎◌, ◌≢◌, min, true, false, List, [], ◌∷◌, ◌++◌, length, get_or, Option, take, drop, decimal, sym, refl, ap, ◌∙◌, subst, inl, inr, ⊎_elim, append_assoc, add-zero, add-one, arith, lit<, lit≤, length-append}
-use Rattle.std.proofs.lemmas.Fmt.{digits_decimal, decimal-digits_value, decimal_digit, decimal_nonempty, first_decimal, length-decimal-le, decimal_injective}
+use Rattle.std.proofs.Common.{◌≡◌, ℕ, zero, suc, ◌+◌, ◌^◌, ◌<◌, ◌≤◌, ◌⊎◌, ◌≢◌, min, true, false, List, [], ◌∷◌, ◌++◌, length, get_or, Option, Ok, Err, Result, take, drop, decimal, sym, refl, ap, ◌∙◌, subst, inl, inr, ⊎_elim, append_assoc, add-zero, add-one, arith, lit<, length-append}
+use Rattle.std.proofs.lemmas.Fmt.{digits_decimal, decimal-digits_value, decimal_digit, decimal_nonempty, first_decimal, length-decimal-le, decimal_injective, IsAscii-from_digits}
 use Rattle.std.proofs.lemmas.Option.{unwrap_or-slice_get}
 use Rattle.std.specs.Option.{unwrap_or}
+use Rattle.std.specs.Result.{OkIff}
 use Rattle.std.proofs.lemmas.Int.Digits.{digits_more, digits_value_more}
 use Rattle.std.proofs.lemmas.List.{length-take-le, get_or_past, get_or-take, get_or-drop, take-append-drop}
-use Rattle.std.proofs.lemmas.Str.Parse.{IsNumeralModel, digits_value-take-le, digits_value_short, numerals_by_value, tells_digits, digit_at, digit_from_value}
-use Rattle.std.proofs.lemmas.Str.{digit_value_digit}
+use Rattle.std.proofs.lemmas.Str.Parse.{IsNumeralModel, digits_value_short, numerals_by_value, tells_digits, digit_from_value, parse_digits}
+use Rattle.std.proofs.lemmas.Str.{digit_value_digit, IsUtf8-from_ascii}
 use Rattle.std.proofs.lemmas.Bool.{cases_lt}
 use Rattle.std.proofs.lemmas.Bool.Decides.{nat_tests}
 use Rattle.std.proofs.lemmas.List.Sums.{prefix_len-le-length, prefix_len_passes, prefix_len_stops}
 use Rattle.std.specs.Float.Numeral.{digits_len}
-use Rattle.std.specs.Str.Parse.{AllDigits, digits_value}
+use Rattle.std.specs.Str.Parse.{AllDigits, digits_value, ParsesUnsigned}
 use Rattle.std.specs.Int.{IsInRange}
 use Rattle.std.specs.Char.{digit_value, is_ascii_digit}
 use Rattle.text.specs.Reading.{Numeral, Counted, closed}
@@ -69,14 +70,12 @@ numeral_alone text first = numeral text 1 _ refl (inl (refl, first))
 pub numeral_long : (text : List ℕ) → get_or text 0 0 ≢ 48 → Numeral text (min (digits_len text) 13)
 numeral_long text first = numeral text 13 _ refl (inr (refl, first))
 
--- one digit more, and what it makes of the number so far
-pub value_step : (ds : List ℕ) (i : ℕ) → AllDigits 10 ds → length ds ≤ 13 → i < length ds → (digits_value 10 (take i ds) < 10 ^ 12) × (digits_value 10 (take (i + 1) ds) ≡ digits_value 10 (take i ds) * 10 + (get_or ds i 0 - 48)) × IsInRange 48 57 (get_or ds i 0)
-value_step ds i digits short lt =
-    let digit = digit_at ds i digits lt in
-    let d = digit_value_digit (get_or ds i 0) digit in
-    let e = digits_value_more 10 ds i lt in
-    let fits : digits_value 10 (take (i + 1) ds) < 10 ^ 13 = omega (arith, digits_value-take-le 10 ds (i + 1) (lit≤ tt), digits_value_short own ds 13 digits short) in
-    (omega (arith, d, e, fits), omega (arith, d, e), digit)
+-- at most 13 digits are text, and are read as a number where there is one
+pub parsed : {E : Type 0} (ds : List ℕ) (r : Result ℕ E) → ParsesUnsigned 64 10 ds r → AllDigits 10 ds → length ds ≤ 13 → OkIff r (0 < length ds) (digits_value 10 ds)
+parsed {E} ds (Ok n) parses digits short = let k = parse_digits own {E = E} 64 ds (Ok n) parses digits in (k.0.0, k.1)
+parsed ds (Err e) parses digits short = λ some. parse_digits own 64 ds (Err e) parses digits (some, omega (arith, digits_value_short own ds 13 digits short))
+
+pub ruleset digits_parse = (IsUtf8-from_ascii, IsAscii-from_digits, parsed)
 
 -- the digits at the front that are one number are what is written of their value
 module _ (text : List ℕ) (len : ℕ) (num : Numeral text len) where
@@ -204,5 +203,5 @@ first_digit n s w x e = subst (λ (v : List ℕ). IsInRange 48 57 (get_or v 0 0)
 -- no digit where a number is due
 pub leaves_number : (close s : List ℕ) (left : ℕ) → (IsInRange 48 57 (get_or s 0 0) → ⊥) → left ≡ length s → Leaves (Field close) s left
 leaves_number close s left none count =
-    leaves_here (Field close) s left 48 close (0, lit< tt, ap (λ (w : List ℕ). w ++ close) (sym (decimal_digit 0 (lit< tt))))
-    (λ w m h. none (subst (λ (x : ℕ). IsInRange 48 57 x) (sym (unwrap_or-slice_get w 0 0) ∙ ap (λ (o : Option ℕ). unwrap_or o 0) h ∙ unwrap_or-slice_get s 0 0) (first_digit m.0 m.1 w close m.2))) count
+    leaves_here (closed close) Small s left 48 close (0, lit< tt, ap (λ (w : List ℕ). w ++ close) (sym (decimal_digit 0 (lit< tt))))
+    (λ n small h. none (subst (λ (x : ℕ). IsInRange 48 57 x) (sym (unwrap_or-slice_get (closed close n) 0 0) ∙ ap (λ (o : Option ℕ). unwrap_or o 0) (sym h) ∙ unwrap_or-slice_get s 0 0) (first_digit n small (closed close n) close refl))) count

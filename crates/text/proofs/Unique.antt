@@ -1,15 +1,20 @@
 -- A text begins with at most one line.
 
-use Rattle.std.proofs.Common.{◌≡◌, ℕ, ◌<◌, List, [], ◌∷◌, ◌++◌, codes, decimal, sym, refl, ap, ◌∙◌, append_assoc, lit<}
+use Rattle.std.proofs.Common.{◌≡◌, ℕ, ◌<◌, false, eqb, List, [], ◌∷◌, ◌++◌, get_or, codes, decimal, sym, refl, ap, ◌∙◌, append_assoc, lit<}
 use Rattle.stream.specs.declared.Row.{Row}
 use Rattle.text.specs.declared.line.Line.{Line}
 use Rattle.text.specs.declared.line.Line.TheVariants.{Sporadic, Raster, Go}
 use Rattle.text.specs.Lines.{class_letter, row_bytes, phased_bytes, render, SmallRow, Valid}
 use Rattle.text.specs.Words.{Small}
+use Rattle.std.proofs.lemmas.Bool.{eqb-false}
 use Rattle.std.proofs.lemmas.List.{append_cancel_left}
-use Rattle.text.proofs.Forms.{Apart, apart_form}
-use Rattle.text.proofs.Grammar.{RowForm, differ, same_class}
+use Rattle.text.proofs.Forms.{Apart, apart_form, same_value}
+use Rattle.text.proofs.Grammar.{RowForm, class_told}
 use Rattle.text.proofs.Numerals.{same_number}
+
+-- texts that differ at a place are not the same
+pub differ : {X : Type 0} {s t : List ℕ} (i : ℕ) → s ≡ t → eqb (get_or s i 0) (get_or t i 0) ≡ false → X
+differ i e apart = absurd (eqb-false _ _ apart (ap (λ (l : List ℕ). get_or l i 0) e))
 
 -- what follows the first byte that closes a row, taken off number by number
 module _ (k : ℕ) (ks : List ℕ) (low : k < 48) where
@@ -34,7 +39,7 @@ module _ (k : ℕ) (ks : List ℕ) (low : k < 48) where
   pub same_row : (r q : Row) (x y : List ℕ) → SmallRow r → SmallRow q → row_bytes (k ∷ ks) r ++ x ≡ row_bytes (k ∷ ks) q ++ y → (r ≡ q) × (x ≡ y)
   same_row r q x y s t e =
       let whole = sym (row_flat r x) ∙ e ∙ row_flat q y in
-      let class = same_class r.class q.class _ _ whole in
+      let class = same_value class_told r.class q.class _ _ whole in
       let class_rest = class.1 in
       let at_budget : from_budget r x ≡ from_budget q y = cc in
       let budget = same_number r.budget q.budget 32 _ _ s.0 t.0 (lit< tt) at_budget in

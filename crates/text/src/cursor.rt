@@ -1,7 +1,6 @@
 // Reading the parts of a line, byte by byte.
 
-ghost use Rattle.std.specs.Prelude.{◌≡◌, ℕ, ◌<◌, ◌≤◌, List, [], ◌∷◌, ◌++◌, length, MatchResult, ◌≢◌, slice_get, slice_index_or};
-ghost use Rattle.std.specs.Str.Parse.{AllDigits, digits_value};
+ghost use Rattle.std.specs.Prelude.{◌≡◌, ℕ, ◌<◌, List, [], ◌∷◌, ◌++◌, length, MatchResult, ◌≢◌, slice_get, slice_index_or};
 ghost use Rattle.std.specs.Float.Numeral.{digits_len};
 ghost use Rattle.std.specs.Int.{IsInRange};
 ghost use Rattle.text.specs.Reading.{ahead, closed, Reads, Strays, Numeral, Counted};
@@ -51,20 +50,6 @@ fn numeral_len(text: &[u8]) -> usize
     digits_len(text).min(most)
 }
 
-// The number that digits write.
-#[tactic(auto, using(crate::proofs::Numerals::value_step))]
-fn digits_value(digits: &[u8]) -> u64
-    requires digits { AllDigits 10 digits.now }
-    requires short { length digits.now ≤ 13 }
-    ensures { result ≡ digits_value 10 digits.now }
-{
-    let mut value = 0;
-    for digit in digits {
-        value = value * 10 + u64::from(digit - b'0');
-    }
-    value
-}
-
 impl<'a> Cursor<'a> {
     // Out of shape at the next byte.
     fn misfit(&self) -> Misfit
@@ -89,16 +74,18 @@ impl<'a> Cursor<'a> {
         Ok(())
     }
 
-    // A number, as many digits as can be its own.
+    // A number, as many digits as can be its own. They are few enough that reading them fails only where there is none.
+    #[tactic(auto, using(crate::proofs::Numerals::digits_parse))]
     fn digits(&mut self) -> Result<u64, Misfit>
         ensures { MatchResult result (λ n. Counted (ahead self.old) n (ahead self.new)) (λ e. ¬ (IsInRange 48 57 (slice_index_or (ahead self.old) 0 0)) × (e.left ≡ length (ahead self.old))) }
     {
         let (digits, rest) = self.rest.split_at(numeral_len(self.rest));
-        if digits.is_empty() {
-            return Err(self.misfit());
-        }
+        let value = str::from_utf8(digits)
+            .ok()
+            .and_then(|text| text.parse().ok())
+            .ok_or(self.misfit())?;
         self.rest = rest;
-        Ok(digits_value(digits))
+        Ok(value)
     }
 
     // A number and the bytes that close it, the first of which is no digit.
