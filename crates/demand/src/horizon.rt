@@ -31,7 +31,7 @@ pub(crate) fn common_multiple<B: Bank>(bank: &B) -> Result<u64, Refusal>
     ensures { MatchResult result (λ h. Horizon B.kind bank.now h × (h ≤ 1000000)) (λ e. (e ≡ HorizonTooFar) × ((m : ℕ) → Common B.kind bank.now m → 1000000 < m)) }
 {
     let mut h = 1;
-    // the numbers that a bank is asked by, no places of a list
+    // The numbers that a bank is asked by, no places of a list. As `filter_map` and `try_fold` it is proved too, but by two inductions over their calls and in more than twice the lines.
     for stream in 1..bank.streams() + 1 {
         if let Some(record) = bank.record_of(stream) {
             h = next_multiple(h, record.row().gap)?;

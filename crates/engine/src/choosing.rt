@@ -23,7 +23,7 @@ fn key_of(mode: Phase, stream: u64, job: Job) -> (u64, u64)
     (job.since + term, stream)
 }
 
-// The job with the least key, or nobody if no job waits.
+// The job with the least key, or nobody if no job waits. Keys are listed for the one scan of this project, which reads a slice, so no `filter_map` with `min`; and to collect them would have an answer for a list too long to take away.
 pub(crate) fn next_turn(state: &State) -> Turn
     requires early { state.now.moment ≤ last_moment }
     requires sound { Sound state.now }

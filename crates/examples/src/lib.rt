@@ -4,6 +4,7 @@
 
 #[cfg(test)]
 mod plans;
+mod ranks;
 mod runs;
 
 #[cfg(test)]

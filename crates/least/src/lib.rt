@@ -45,7 +45,7 @@ impl Ranked for Point {
     }
 }
 
-// Not one impl for every `X: Ord`: it would leave a type that has an `Ord` no other order to be ranked in.
+// Not one impl for every `X: Ord`: it would take from callers what they may do now, to rank a type that has an `Ord` by another order.
 impl Ranked for (u64, u64) {
     ghost below = { pair_below };
 

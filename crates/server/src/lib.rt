@@ -14,7 +14,7 @@ use std::alloc::{AllocError, Global};
 // The longest text, in bytes, that replay reads.
 pub const LONGEST_TEXT: u64 = 65536;
 
-// Reads a plan, judges it and says so, one answer to a line. `script::play`, and `answer_to` below it, have the same lines with another run behind the verdict: said once, the contract would have to speak through a closure.
+// Reads a plan, judges it and says so, one answer to a line. `script::play`, and `answer_to` below it, have the same lines with another run behind the verdict. Said once, the run would be a closure or a type's method, and its contract would need a law that takes in both runs and both relations: more than the lines that it saves.
 pub fn replay(heap: Global, text: &[u8]) -> Result<String, AllocError>
     ensures { IfOk result (λ s. Replayed text.now (string_bytes s)) }
 {
