@@ -1,7 +1,6 @@
 pub mod Plateaus
 pub mod Widths
 pub mod Listing
-pub mod Watches
 pub mod Totals
 pub mod Multiples
 pub mod Nearest
@@ -9,5 +8,6 @@ pub mod Beyond
 pub mod Uniqueness
 pub mod Deciding
 pub mod Publishing
-pub mod Steadies
+pub mod Watches
+pub mod Keeping
 pub mod Followings

@@ -1,12 +1,16 @@
 -- What the laws of a bank say of a stream whose row is known.
 
-use Rattle.std.proofs.Common.{◌≡◌, ℕ, ◌<◌, Some, None, Option, refl, subst, arith}
+use Rattle.std.proofs.Common.{◌≡◌, ℕ, ◌<◌, ◌≤◌, cond, pos, Some, None, Option, refl, ap, ◌∙◌, subst, arith}
+use Rattle.std.proofs.lemmas.Bool.{le-leb}
+use Rattle.std.specs.Option.{unwrap_or}
 use Rattle.stream.specs.Limits.{Within}
 use Rattle.stream.specs.declared.Row.{Row}
 use Rattle.stream.specs.declared.limits.Record.{Record}
 use Rattle.bank.specs.Ceilings.{Ceiling}
 use Rattle.bank.specs.Kinds.{Kind}
 use Rattle.bank.specs.Laws.{Laws}
+use Rattle.bank.specs.Questions.{asked, told}
+use Rattle.bank.specs.declared.Question.TheVariants.{Outside, At}
 use Rattle.demand.specs.Horizons.{Common, Horizon}
 use Rattle.demand.specs.Listing.{row_of, Listed}
 use Rattle.demand.specs.Multiples.{Multiple, LeastMultiple}
@@ -23,6 +27,13 @@ listed_ceiling k laws b i row l =
     let found = listed_record (k.records b i) row l in
     let P : Row → Type 0 = λ x. Ceiling x (k.count b i) (k.ceiling b i) in
     subst P found.2 (laws.ceilings b i found.0 found.1)
+
+-- what the bank tells of its ceiling
+pub listed_told : {S : Type 0} (k : Kind S) (b : S) (i : ℕ) (row : Row) → Listed k b i row → (m : ℕ) → m ≤ 1000000 → unwrap_or (told (k.records b i) (k.ceiling b i) (asked (pos m))) 0 ≡ k.ceiling b i m
+listed_told k b i row l m within =
+    let found = listed_record (k.records b i) row l in
+    let N = k.ceiling b i in
+    ap (λ o. unwrap_or (told o N (asked (pos m))) 0) found.1 ∙ ap (λ x. unwrap_or (told (Some found.0) N (cond x (At m) Outside)) 0) (le-leb m 1000000 within)
 
 -- a common multiple of the gaps of all streams, said of the streams up to the last
 pub common_multiple : {S : Type 0} (k : Kind S) (b : S) (n m : ℕ) → Common k b m → Multiple k b n m

@@ -7,47 +7,26 @@ ghost use Rattle.demand.specs.Shares.{slack};
 ghost use Rattle.demand.specs.Verdicts.{Accepts, Decided, DemandTold, Judged, Refuses};
 
 use bank::Bank;
-use demands::{Followed, demand_of};
+use following::Following;
 use horizon::common_multiple;
 use scan::scan;
 use stream::{MOST_STREAMS, Phase, Refusal, Row, Verdict};
 
 mod asked;
-mod demands;
+mod following;
 mod horizon;
 mod loads;
-mod memory;
 mod normal;
 mod overrun;
 mod published;
 mod scan;
+mod watch;
 
 pub use loads::load;
 pub use published::sporadic_share;
 
 // No horizon may lie farther.
 const FARTHEST: u64 = 1000000;
-
-// The plateau of a stream's ceiling that was last looked at: where it began, and its value; 0 before the first look: no ceiling is 0, so the first look begins a plateau with no case of its own, as an Option would need.
-#[derive(Clone, Copy, Default)]
-struct Plateau {
-    start: u64,
-    level: u64,
-}
-
-// A share that stays the same at every length below `end`.
-#[derive(Clone, Copy, Default)]
-struct Steady {
-    share: u64,
-    end: u64,
-}
-
-// What is known of a stream in an overrun.
-#[derive(Clone, Copy, Default)]
-struct Watch {
-    plateau: Plateau,
-    steady: Steady,
-}
 
 // The ticks between the short deadline and the deadline.
 fn slack(row: &Row) -> u64
@@ -79,25 +58,16 @@ fn judge<B: Bank>(bank: &B) -> Result<Verdict, Refusal>
     scan(bank, horizon)
 }
 
-// The demand of a phase at a length of at most 1,000,000, for at most 32 streams.
+// The demand of a phase at a length of at most 1,000,000, for at most 32 streams, by way of all lengths before it.
 pub fn demand_at<B: Bank>(bank: &B, phase: Phase, length: u64) -> Option<u64>
     ensures { DemandTold B.kind bank.now phase length result }
 {
-    let streams = bank.streams() as usize;
-    if streams > MOST_STREAMS || length > FARTHEST {
+    if bank.streams() > MOST_STREAMS as u64 || length > FARTHEST {
         return None;
     }
-    // An array of a type parameter asks for a bound on the size of its items, so those who name the type of memory make the array.
-    Some(match phase {
-        Phase::Normal => demand_of::<B, Steady>(
-            bank,
-            &mut [Followed::default(); MOST_STREAMS][..streams],
-            length,
-        ),
-        Phase::Overrun => demand_of::<B, Watch>(
-            bank,
-            &mut [Followed::default(); MOST_STREAMS][..streams],
-            length,
-        ),
-    })
+    let mut streams = Following::new(bank, phase);
+    for before in 0..length {
+        streams.next_demand(before);
+    }
+    Some(streams.next_demand(length))
 }

@@ -1,30 +1,17 @@
 // The overrun share of a stream.
 
-ghost use Rattle.std.specs.Prelude.{◌≡◌, ℕ, ◌+◌, ◌-◌, ◌*◌, ◌^◌, ◌<◌, ◌≤◌};
+ghost use Rattle.std.specs.Prelude.{◌≡◌, ◌+◌, ◌-◌, ◌*◌, ◌^◌, ◌<◌, ◌≤◌};
+ghost use Rattle.stream.specs.declared.Class.TheVariants.{Critical};
 ghost use Rattle.stream.specs.declared.Phase.TheVariants.{Overrun};
 ghost use Rattle.demand.specs.Asking.{curve};
-ghost use Rattle.demand.specs.Shares.{overrun_share};
-ghost use Rattle.demand.specs.Watching.{Kept, Watched, moved};
-ghost use Rattle.std.proofs.Common.{rules};
+ghost use Rattle.demand.specs.Shares.{overrun_share, slack};
+ghost use Rattle.demand.specs.Watching.{Kept, Seen, Watched};
 
 use crate::asked::Asked;
-use crate::memory::Memory;
-use crate::{FARTHEST, Plateau, Steady, Watch, slack};
+use crate::watch::{Plateau, Steady, Watch};
+use crate::{FARTHEST, slack};
 use bank::Bank;
-use stream::{Class, Phase, Row};
-
-impl Plateau {
-    // The plateau at m, where the ceiling is `level`.
-    fn at(self, m: u64, level: u64) -> Plateau
-        ensures { result ≡ moved self m level }
-    {
-        if level == self.level {
-            self
-        } else {
-            Plateau { start: m, level }
-        }
-    }
-}
+use stream::{Class, Row};
 
 // What all jobs due ask for, less what a carried-over job did since the plateau began.
 fn less_done(row: &Row, level: u64, since: u64) -> u64
@@ -35,78 +22,50 @@ fn less_done(row: &Row, level: u64, since: u64) -> u64
     (level * row.certain).saturating_sub(left)
 }
 
-// The overrun share, and the plateau from here on. The n that counts is the last one on the plateau, so no other is tried.
-#[tactic(auto, using(crate::proofs::Plateaus::share_of_background, crate::proofs::Plateaus::share_before_slack, crate::proofs::Listing::listed_within, crate::proofs::Widths::certain_fits, crate::proofs::Widths::product_fits))]
-fn share_on<B: Bank>(stream: &Asked<B>, seen: Plateau) -> (Plateau, u64)
-    requires { Watched stream.now.row.now (curve stream.now) stream.now.length seen }
-    ensures value { result.1 ≡ overrun_share stream.now.row.now (curve stream.now) stream.now.length }
-    ensures bound { result.1 < 2 ^ 37 }
-    ensures watched { Watched stream.now.row.now (curve stream.now) (stream.now.length + 1) result.0 }
+// What is known once a critical stream is asked for its overrun share, past its slack. The n that counts is the last one on the plateau, so no other is tried. While the carried-over job does its budget, the share grows at each length.
+fn critical_watch<B: Bank>(stream: &Asked<B>, seen: Plateau) -> Watch
+    requires critical { stream.now.row.now.class ≡ Critical }
+    requires late { slack stream.now.row.now ≤ stream.now.length }
+    requires seen { Seen (curve stream.now) (stream.now.length - slack stream.now.row.now) seen }
+    ensures value { result.steady.share ≡ overrun_share stream.now.row.now (curve stream.now) stream.now.length }
+    ensures kept { Kept Overrun stream.now.row.now (curve stream.now) (stream.now.length + 1) result }
 {
-    let Asked { row, length, .. } = *stream;
-    match row.class {
-        Class::Background => (seen, 0),
-        Class::Critical => {
-            let slack = slack(row);
-            if length < slack {
-                return (seen, 0);
-            }
-            let m = length - slack;
-            let level = stream.ceiling_at(length, slack);
-            let plateau = seen.at(m, level);
-            (plateau, less_done(row, level, m - plateau.start))
-        }
+    let row = stream.row;
+    let slack = slack(row);
+    let plateau = stream.plateau(seen, slack);
+    let since = stream.length - slack - plateau.start;
+    let end = if since < row.budget {
+        stream.length + 1
+    } else {
+        slack + plateau.end
+    };
+    Watch {
+        plateau,
+        steady: Steady {
+            share: less_done(row, plateau.level, since),
+            end,
+        },
     }
 }
 
-// Where the overrun share may change again: past its slack, a carried-over job first has to do its budget, and then the plateau has to end.
-#[tactic(auto, using(crate::proofs::Plateaus::share_of_background, crate::proofs::Plateaus::share_before_slack))]
-fn share_end<B: Bank>(stream: &Asked<B>, plateau: Plateau) -> u64
-    requires { Watched stream.now.row.now (curve stream.now) (stream.now.length + 1) plateau }
-    ensures share { (q : ℕ) → stream.now.length < q → q < result → overrun_share stream.now.row.now (curve stream.now) q ≡ overrun_share stream.now.row.now (curve stream.now) stream.now.length }
-    ensures stays { (q : ℕ) → stream.now.length < q → q < result → Watched stream.now.row.now (curve stream.now) (q + 1) plateau }
+// What is known once a stream is asked for its overrun share: a background stream has none, nor has one that is not past its slack.
+pub(crate) fn overrun_watch<B: Bank>(stream: &Asked<B>, seen: Plateau) -> Watch
+    requires { Watched Overrun stream.now.row.now (curve stream.now) stream.now.length seen }
+    ensures value { result.steady.share ≡ overrun_share stream.now.row.now (curve stream.now) stream.now.length }
+    ensures kept { Kept Overrun stream.now.row.now (curve stream.now) (stream.now.length + 1) result }
 {
-    let Asked { row, length, .. } = *stream;
-    match row.class {
+    let free = match stream.row.class {
         Class::Background => FARTHEST + 1,
-        Class::Critical => {
-            let slack = slack(row);
-            if length < slack {
-                return slack;
-            }
-            if length - slack - plateau.start < row.budget {
-                return length + 1;
-            }
-            let last = (slack + plateau.start + row.gap - 1).min(FARTHEST);
-            stream.level_end(plateau.level, slack, last)
-        }
-    }
-}
-
-impl Memory for Watch {
-    ghost PHASE = { Overrun };
-
-    ghost right = { Kept };
-
-    ghost begins = { Prim.search rules };
-
-    const PHASE: Phase = Phase::Overrun;
-
-    // Every plateau before it is looked at.
-    fn first(_length: u64) -> u64 {
-        0
-    }
-
-    fn share_at<B: Bank>(&mut self, stream: &Asked<B>) -> u64 {
-        if stream.length < self.steady.end {
-            return self.steady.share;
-        }
-        let (plateau, share) = share_on(stream, self.plateau);
-        let end = share_end(stream, plateau);
-        *self = Watch {
-            plateau,
-            steady: Steady { share, end },
+        Class::Critical => slack(stream.row),
+    };
+    if stream.length < free {
+        return Watch {
+            plateau: seen,
+            steady: Steady {
+                share: 0,
+                end: free,
+            },
         };
-        share
     }
+    critical_watch(stream, seen)
 }

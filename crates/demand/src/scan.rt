@@ -3,32 +3,27 @@
 ghost use Rattle.std.specs.Prelude.{◌≡◌, ◌+◌, ◌<◌, ◌≤◌, MatchResult};
 ghost use Rattle.least.specs.Firsts.{FirstLeast};
 ghost use Rattle.least.specs.Orders.{by_margin, point_below};
-ghost use Rattle.demand.specs.Following.{Follows};
+ghost use Rattle.demand.specs.Following.{Upto};
 ghost use Rattle.demand.specs.Verdicts.{InReach, Accepts, Passes, Refuses, Stops, candidates};
 
-use crate::demands::{Followed, list, next_demand};
-use crate::memory::Memory;
-use crate::{Steady, Watch};
+use crate::following::Following;
 use bank::Bank;
 use least::least;
-use stream::{MOST_STREAMS, Point, Refusal, Verdict};
+use stream::{Phase, Point, Refusal, Verdict};
 
-// The point of a phase at a length, or the refusal if the demand exceeds it. Bank, streams and length stand apart as in `next_demand`.
-fn look<B: Bank, M: Memory>(
-    bank: &B,
-    streams: &mut [Followed<M>],
-    horizon: u64,
-    length: u64,
-) -> Result<Point, Refusal>
+// The point of a phase at a length, or the refusal if the demand exceeds it.
+fn look<B: Bank>(streams: &mut Following<B>, length: u64, horizon: u64) -> Result<Point, Refusal>
     requires within { length ≤ 1000000 }
-    requires follows { Follows B.kind bank.now M.right length streams.old }
-    ensures cases { MatchResult result (λ point. Passes B.kind bank.now M.PHASE length point) (λ e. Stops B.kind bank.now horizon M.PHASE length e) }
-    ensures follows { Follows B.kind bank.now M.right (length + 1) streams.new }
+    requires upto { Upto B.kind streams.old length }
+    ensures cases { MatchResult result (λ point. Passes B.kind streams.old.bank.now streams.old.phase length point) (λ e. Stops B.kind streams.old.bank.now horizon streams.old.phase length e) }
+    ensures bank { streams.new.bank.now ≡ streams.old.bank.now }
+    ensures phase { streams.new.phase ≡ streams.old.phase }
+    ensures upto { Upto B.kind streams.new (length + 1) }
 {
     let point = Point {
-        phase: M::PHASE,
+        phase: streams.phase,
         length,
-        margin: length as i64 - next_demand(bank, streams, length) as i64,
+        margin: length as i64 - streams.next_demand(length) as i64,
     };
     if point.margin < 0 {
         return Err(Refusal::DemandExceeded(Verdict {
@@ -62,20 +57,17 @@ fn keep_nearest(nearest: &mut Option<Point>, length: u64, normal: Point, overrun
     }
 }
 
-// Looks at every length up to the horizon, in order, until a demand exceeds one. An `ArrayVec` in place of the arrays misses a bar of speed (docs/SPEED.md).
+// Looks at every length up to the horizon, in order, until a demand exceeds one.
 pub(crate) fn scan<B: Bank>(bank: &B, horizon: u64) -> Result<Verdict, Refusal>
     requires { InReach B.kind bank.now horizon }
     ensures { MatchResult result (λ v. Accepts B.kind bank.now v) (λ e. Refuses B.kind bank.now e) }
 {
-    let streams = bank.streams() as usize;
-    let steadies = &mut [Followed::<Steady>::default(); MOST_STREAMS][..streams];
-    let watches = &mut [Followed::<Watch>::default(); MOST_STREAMS][..streams];
-    list(bank, steadies);
-    list(bank, watches);
+    let mut normals = Following::new(bank, Phase::Normal);
+    let mut overruns = Following::new(bank, Phase::Overrun);
     let mut nearest = None;
     for length in 0..horizon + 1 {
-        let normal = look(bank, steadies, horizon, length)?;
-        let overrun = look(bank, watches, horizon, length)?;
+        let normal = look(&mut normals, length, horizon)?;
+        let overrun = look(&mut overruns, length, horizon)?;
         keep_nearest(&mut nearest, length, normal, overrun);
     }
     match nearest {

@@ -1,44 +1,55 @@
 // Asking a stream for its ceiling.
 
-ghost use Rattle.std.specs.Prelude.{◌≡◌, ℕ, ◌<◌, ◌≤◌};
+ghost use Rattle.std.specs.Prelude.{◌≡◌, ◌-◌, ◌≤◌};
 ghost use Rattle.std.specs.Option.{unwrap_or};
-ghost use Rattle.bank.specs.Ceilings.{back};
 ghost use Rattle.bank.specs.Questions.{asked, told};
 ghost use Rattle.demand.specs.Asking.{curve};
+ghost use Rattle.demand.specs.Watching.{On, Seen, moved};
 
 use crate::asked::Asked;
+use crate::watch::Plateau;
 use bank::Bank;
 
-// What a bank tells of a stream's ceiling, and 0 where it tells nothing. It is kept out of line, so that what runs at every length stays small (docs/SPEED.md).
-#[inline(never)]
+// What a bank tells of a stream's ceiling, and 0 where it tells nothing.
 fn told<B: Bank>(bank: &B, stream: u64, m: i64) -> u64
     ensures { result ≡ unwrap_or (told (B.kind.records bank.now stream) (B.kind.ceiling bank.now stream) (asked m)) 0 }
 {
     bank.ceiling(stream, m).unwrap_or(0)
 }
 
-impl<'a, 'b, B: Bank> Asked<'a, 'b, B> {
-    // The ceiling at `length - before`, both within what a bank is asked.
-    pub(crate) fn ceiling_at(&self, length: u64, before: u64) -> u64
-        requires length_within { length ≤ 1000000 }
-        requires before_within { before ≤ 65535 }
-        ensures value { result ≡ back (curve self.now) length before }
-        ensures bound { result ≤ 1065535 }
+impl Plateau {
+    // The plateau at m, where the ceiling is `level`: the one before goes on, or a new one begins. Where the ceiling has risen by all that a gap adds, it stays for a gap.
+    fn moved(self, m: u64, level: u64, count: u64, gap: u64) -> Plateau
+        requires within { m ≤ 1000000 }
+        requires gap { gap ≤ 65535 }
+        ensures { result ≡ moved self m level count gap }
     {
-        told(self.bank, self.number, length as i64 - before as i64)
-    }
-
-    // The lengths from here on, below which the ceiling is certain to stay at `level`: it never falls, so it is the same up to `last` if it is there.
-    pub(crate) fn level_end(&self, level: u64, before: u64, last: u64) -> u64
-        requires before_within { before ≤ 65535 }
-        requires last_within { last ≤ 1000000 }
-        requires level { level ≡ back (curve self.now) self.now.length before }
-        ensures { (q : ℕ) → self.now.length ≤ q → q < result → back (curve self.now) q before ≡ level }
-    {
-        if self.ceiling_at(last, before) == level {
-            last + 1
+        let start = if level == self.level { self.start } else { m };
+        let rest = if level.saturating_sub(self.level) == count {
+            gap
         } else {
-            self.length + 1
+            1
+        };
+        Plateau {
+            start,
+            level,
+            end: m + rest,
         }
+    }
+}
+
+impl<'a, 'b, B: Bank> Asked<'a, 'b, B> {
+    // The plateau at `length - before`, asked for only where the one that was seen may have ended.
+    pub(crate) fn plateau(&self, seen: Plateau, before: u64) -> Plateau
+        requires late { before ≤ self.now.length }
+        requires seen { Seen (curve self.now) (self.now.length - before) seen }
+        ensures { On (curve self.now) (self.now.length - before) result }
+    {
+        let m = self.length - before;
+        if m < seen.end {
+            return seen;
+        }
+        let level = told(self.bank, self.number, m as i64);
+        seen.moved(m, level, self.count, self.row.gap)
     }
 }
