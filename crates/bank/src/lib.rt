@@ -49,7 +49,7 @@ impl From<i64> for Question {
 pub trait Bank {
     ghost kind: { Kind Self };
 
-    // Each kind of bank has one letter of its own.
+    // Each kind of bank has one letter of its own: a number that laws speak of, since they cannot name a constant, and the constant itself.
     ghost LETTER: { ℕ };
 
     const LETTER: char;
@@ -94,7 +94,7 @@ pub fn most_accepted<B: Bank>(bank: &B, stream: u64, moments: u64) -> Option<u64
     bank.ceiling(stream, moments as i64 - 1)
 }
 
-// Whether a stream exists. If so, all that is asked of a bank holds of it, said over whole numbers.
+// Whether a stream exists. If so, the rules on ceilings and openings hold of it, said over whole numbers.
 pub fn has_stream<B: Bank>(bank: &B, stream: u64) -> bool
     ensures there { result ≡ true → (rec : Rec) × (B.kind.records bank.now stream ≡ Some rec) × Rules B.kind bank.now stream rec }
     ensures absent { result ≡ false → B.kind.records bank.now stream ≡ None }

@@ -62,9 +62,9 @@ module _ {S : Type 0} (k : Kind S) (b : S) (phase : Phase) (t i : ℕ) where
   pub passed_steady : {x : Followed} → Follow k b phase t i x → t < x.watch.steady.end → Passed x
   passed_steady {x} f before =
       let on = kept_on f.kept before in
-      (on.0 ∙ sym (asks_listed k b phase i x.row t f.listed), on.1.share.small, record { numbered = f.numbered; listed = f.listed; counted = f.counted; kept = on.1 })
+      (on.0 ∙ sym (asks_listed k b phase i x.entry.row t (rw f.numbered at f.entered.listed)), on.1.share.small, record { numbered = f.numbered; entered = f.entered; kept = on.1 })
 
-  pub passed_asked : {x : Followed} → Follow k b phase t i x → (w : Watch) → w.steady.share ≡ share_of phase x.row (k.ceiling b x.number) t → Kept phase x.row (k.ceiling b x.number) (t + 1) w → Passed (record { number = x.number; row = x.row; count = x.count; watch = w })
+  pub passed_asked : {x : Followed} → Follow k b phase t i x → (w : Watch) → w.steady.share ≡ share_of phase x.entry.row (k.ceiling b x.entry.number) t → Kept phase x.entry.row (k.ceiling b x.entry.number) (t + 1) w → Passed (record { entry = x.entry; watch = w })
   passed_asked {x} f w share kept =
-      let here : Kept phase x.row (k.ceiling b i) (t + 1) w = rw f.numbered at kept in
-      (rw f.numbered at share ∙ sym (asks_listed k b phase i x.row t f.listed), kept.share.small, record { numbered = f.numbered; listed = f.listed; counted = f.counted; kept = here })
+      let here : Kept phase x.entry.row (k.ceiling b i) (t + 1) w = rw f.numbered at kept in
+      (rw f.numbered at share ∙ sym (asks_listed k b phase i x.entry.row t (rw f.numbered at f.entered.listed)), kept.share.small, record { numbered = f.numbered; entered = f.entered; kept = here })

@@ -3,7 +3,7 @@
 use Rattle.std.specs.Prelude.{◌≡◌, ℕ, ◌+◌, ◌<◌, List, length, slice_index_or}
 use Rattle.stream.specs.declared.Phase.{Phase}
 use Rattle.bank.specs.Kinds.{Kind}
-use Rattle.demand.specs.Listing.{Listed}
+use Rattle.demand.specs.Listing.{Entered}
 use Rattle.demand.specs.Watching.{Kept}
 use Rattle.demand.specs.declared.following.Followed.{Followed}
 use Rattle.demand.specs.declared.following.Following.{Following}
@@ -11,10 +11,9 @@ use Rattle.demand.specs.declared.following.Following.{Following}
 module _ {S : Type 0} (k : Kind S) (b : S) where
   -- stream i of the bank, of which so much is known from length t on
   pub record Follow (p : Phase) (t i : ℕ) (stream : Followed) : Type 0 where
-    pub numbered : stream.number ≡ i
-    pub listed : Listed k b i stream.row
-    pub counted : stream.count ≡ k.count b i
-    pub kept : Kept p stream.row (k.ceiling b i) t stream.watch
+    pub numbered : stream.entry.number ≡ i
+    pub entered : Entered k b stream.entry
+    pub kept : Kept p stream.entry.row (k.ceiling b i) t stream.watch
 
   -- all streams, in their order
   pub record Follows (p : Phase) (t : ℕ) (streams : List Followed) : Type 0 where

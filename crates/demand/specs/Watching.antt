@@ -51,3 +51,7 @@ pub record Kept (p : Phase) (r : Row) (N : ℕ → ℕ) (t : ℕ) (w : Watch) : 
   pub watched : Watched p r N t w.plateau
   pub share : Holds (share_of p r N) t w.steady
   pub stays : (q : ℕ) → t ≤ q → q < w.steady.end → Watched p r N (q + 1) w.plateau
+
+-- no share below an end
+abbrev pub idle : Plateau → ℕ → Watch
+idle p end = record { plateau = p; steady = record { share = 0; end = end } }

@@ -1,23 +1,21 @@
 // One stream of a bank at a length, with what is known of it at hand.
 
-ghost use Rattle.std.specs.Prelude.{◌≡◌, ◌≤◌};
-ghost use Rattle.demand.specs.Listing.{Listed};
+ghost use Rattle.std.specs.Prelude.{◌≤◌};
+ghost use Rattle.demand.specs.Listing.{Entered};
 
+use crate::entry::Entry;
 use bank::Bank;
-use stream::{Phase, Row};
+use stream::Phase;
 
 mod asking;
 
-// A stream that is asked for its ceiling, for its share in a phase.
+// A stream that is asked for its ceiling, so that its share in a phase is known.
 #[derive(Drop)]
 pub(crate) struct Asked<'a, 'b, B: Bank> {
     pub(crate) bank: &'a B,
     pub(crate) phase: Phase,
-    pub(crate) number: u64,
-    pub(crate) row: &'b Row,
-    pub(crate) count: u64,
+    pub(crate) entry: &'b Entry,
     pub(crate) length: u64,
-    ghost listed: { Listed B.kind bank.now number row.now },
-    ghost counted: { count ≡ B.kind.count bank.now number },
+    ghost entered: { Entered B.kind bank.now entry.now },
     ghost within: { length ≤ 1000000 },
 }

@@ -13,6 +13,7 @@ use scan::scan;
 use stream::{MOST_STREAMS, Phase, Refusal, Row, Verdict};
 
 mod asked;
+mod entry;
 mod following;
 mod horizon;
 mod loads;
@@ -43,7 +44,7 @@ pub fn admit<B: Bank>(bank: &B) -> Result<Verdict, Refusal>
     judge(bank)
 }
 
-// The same, as far as the horizon.
+// What `admit` answers, by what was looked at: the lengths up to the horizon.
 fn judge<B: Bank>(bank: &B) -> Result<Verdict, Refusal>
     ensures { MatchResult result (λ v. Accepts B.kind bank.now v) (λ e. Refuses B.kind bank.now e) }
 {

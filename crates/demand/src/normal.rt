@@ -1,10 +1,9 @@
 // The normal share of a stream.
 
-ghost use Rattle.std.specs.Prelude.{◌≡◌, ◌+◌, ◌-◌};
+ghost use Rattle.std.specs.Prelude.{◌-◌};
 ghost use Rattle.stream.specs.declared.Phase.TheVariants.{Normal};
-ghost use Rattle.demand.specs.Asking.{curve};
-ghost use Rattle.demand.specs.Shares.{normal_share};
-ghost use Rattle.demand.specs.Watching.{Kept, Seen};
+ghost use Rattle.demand.specs.Asking.{Renews, curve};
+ghost use Rattle.demand.specs.Watching.{Seen};
 
 use crate::asked::Asked;
 use crate::watch::{Plateau, Steady, Watch};
@@ -12,19 +11,12 @@ use bank::Bank;
 
 // What is known once a stream is asked for its normal share: each job that is due by its short deadline asks for the budget.
 pub(crate) fn normal_watch<B: Bank>(stream: &Asked<B>, seen: Plateau) -> Watch
-    requires { Seen (curve stream.now) (stream.now.length - stream.now.row.now.short) seen }
-    ensures value { result.steady.share ≡ normal_share stream.now.row.now (curve stream.now) stream.now.length }
-    ensures kept { Kept Normal stream.now.row.now (curve stream.now) (stream.now.length + 1) result }
+    requires { Seen (curve stream.now) (stream.now.length - stream.now.entry.now.row.short) seen }
+    ensures { Renews stream.now Normal result }
 {
-    let row = stream.row;
+    let row = stream.entry.row;
     if stream.length < row.short {
-        return Watch {
-            plateau: seen,
-            steady: Steady {
-                share: 0,
-                end: row.short,
-            },
-        };
+        return Watch::idle(seen, row.short);
     }
     let plateau = stream.plateau(seen, row.short);
     Watch {

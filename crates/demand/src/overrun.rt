@@ -1,11 +1,11 @@
 // The overrun share of a stream.
 
-ghost use Rattle.std.specs.Prelude.{◌≡◌, ◌+◌, ◌-◌, ◌*◌, ◌^◌, ◌<◌, ◌≤◌};
+ghost use Rattle.std.specs.Prelude.{◌≡◌, ◌-◌, ◌*◌, ◌^◌, ◌<◌, ◌≤◌};
 ghost use Rattle.stream.specs.declared.Class.TheVariants.{Critical};
 ghost use Rattle.stream.specs.declared.Phase.TheVariants.{Overrun};
-ghost use Rattle.demand.specs.Asking.{curve};
-ghost use Rattle.demand.specs.Shares.{overrun_share, slack};
-ghost use Rattle.demand.specs.Watching.{Kept, Seen, Watched};
+ghost use Rattle.demand.specs.Asking.{Renews, curve};
+ghost use Rattle.demand.specs.Shares.{slack};
+ghost use Rattle.demand.specs.Watching.{Seen, Watched};
 
 use crate::asked::Asked;
 use crate::watch::{Plateau, Steady, Watch};
@@ -13,7 +13,7 @@ use crate::{FARTHEST, slack};
 use bank::Bank;
 use stream::{Class, Row};
 
-// What all jobs due ask for, less what a carried-over job did since the plateau began.
+// What all jobs due ask for, less what a carried-over job must have done by then.
 fn less_done(row: &Row, level: u64, since: u64) -> u64
     requires { level * row.now.certain < 2 ^ 37 }
     ensures { result ≡ level * row.now.certain - (row.now.budget - since) }
@@ -22,15 +22,14 @@ fn less_done(row: &Row, level: u64, since: u64) -> u64
     (level * row.certain).saturating_sub(left)
 }
 
-// What is known once a critical stream is asked for its overrun share, past its slack. The n that counts is the last one on the plateau, so no other is tried. While the carried-over job does its budget, the share grows at each length.
+// What is known once a critical stream is asked for its overrun share, from its slack on. Of all times that a carried-over job may have left, the worst is the longest on the plateau, so no other is tried. While that job does its budget, the share grows at each length.
 fn critical_watch<B: Bank>(stream: &Asked<B>, seen: Plateau) -> Watch
-    requires critical { stream.now.row.now.class ≡ Critical }
-    requires late { slack stream.now.row.now ≤ stream.now.length }
-    requires seen { Seen (curve stream.now) (stream.now.length - slack stream.now.row.now) seen }
-    ensures value { result.steady.share ≡ overrun_share stream.now.row.now (curve stream.now) stream.now.length }
-    ensures kept { Kept Overrun stream.now.row.now (curve stream.now) (stream.now.length + 1) result }
+    requires critical { stream.now.entry.now.row.class ≡ Critical }
+    requires late { slack stream.now.entry.now.row ≤ stream.now.length }
+    requires seen { Seen (curve stream.now) (stream.now.length - slack stream.now.entry.now.row) seen }
+    ensures { Renews stream.now Overrun result }
 {
-    let row = stream.row;
+    let row = &stream.entry.row;
     let slack = slack(row);
     let plateau = stream.plateau(seen, slack);
     let since = stream.length - slack - plateau.start;
@@ -48,24 +47,18 @@ fn critical_watch<B: Bank>(stream: &Asked<B>, seen: Plateau) -> Watch
     }
 }
 
-// What is known once a stream is asked for its overrun share: a background stream has none, nor has one that is not past its slack.
+// What is known once a stream is asked for its overrun share: a background stream has none at any length that is looked at, and a critical one has none below its slack.
 pub(crate) fn overrun_watch<B: Bank>(stream: &Asked<B>, seen: Plateau) -> Watch
-    requires { Watched Overrun stream.now.row.now (curve stream.now) stream.now.length seen }
-    ensures value { result.steady.share ≡ overrun_share stream.now.row.now (curve stream.now) stream.now.length }
-    ensures kept { Kept Overrun stream.now.row.now (curve stream.now) (stream.now.length + 1) result }
+    requires { Watched Overrun stream.now.entry.now.row (curve stream.now) stream.now.length seen }
+    ensures { Renews stream.now Overrun result }
 {
-    let free = match stream.row.class {
+    let row = &stream.entry.row;
+    let free = match row.class {
         Class::Background => FARTHEST + 1,
-        Class::Critical => slack(stream.row),
+        Class::Critical => slack(row),
     };
     if stream.length < free {
-        return Watch {
-            plateau: seen,
-            steady: Steady {
-                share: 0,
-                end: free,
-            },
-        };
+        return Watch::idle(seen, free);
     }
     critical_watch(stream, seen)
 }

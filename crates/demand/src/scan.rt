@@ -35,14 +35,14 @@ fn look<B: Bank>(streams: &mut Following<B>, length: u64, horizon: u64) -> Resul
     Ok(point)
 }
 
-// The order of points by margin alone: of two lengths the later never comes first, so no more has to be compared at each.
+// By margin alone, not by the order of points: it only tells where nothing has to be chosen.
 fn closer(point: Point, other: Point) -> bool
     ensures { result ≡ by_margin point other }
 {
     point.margin < other.margin
 }
 
-// Keeps the nearest point, once those of another length are there. Length 0 can be exceeded, but is no candidate. Mostly nothing comes nearer; then nothing is chosen or written.
+// Keeps the nearest point, once those of another length are there. Length 0 can be exceeded, but is no candidate. It is kept in place, and written only where something may come nearer: handed through a call at each length, its unused bytes cost half the time of two streams (docs/SPEED.md).
 fn keep_nearest(nearest: &mut Option<Point>, length: u64, normal: Point, overrun: Point)
     ensures first { length ≡ 0 → nearest.new ≡ nearest.old }
     ensures later { 0 < length → FirstLeast point_below (candidates nearest.old normal overrun) nearest.new }

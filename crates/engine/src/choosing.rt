@@ -23,7 +23,7 @@ fn key_of(mode: Phase, stream: u64, job: Job) -> (u64, u64)
     (job.since + term, stream)
 }
 
-// The job with the least key, or nobody if no job waits. Keys are listed for the one scan of this project, which reads a slice, so no `filter_map` with `min`; and to collect them would have an answer for a list too long to take away.
+// The job with the least key, or nobody if no job waits. They are chosen from by the one scan of this project, over a slice of keys, and not by `filter_map` with `min`. Collecting the keys can fail where the list is full, which it never is; so they are pushed.
 pub(crate) fn next_turn(state: &State) -> Turn
     requires early { state.now.moment ≤ last_moment }
     requires sound { Sound state.now }

@@ -4,6 +4,7 @@
 
 #[cfg(test)]
 mod plans;
+#[cfg(test)]
 mod ranks;
 mod runs;
 
@@ -17,6 +18,7 @@ mod tests {
     use script::play;
     use server::replay;
     use std::alloc::Global;
+    use std::process::Abort;
     use std::test::Fail;
     use stream::{MOST_STREAMS, Phase, Point, Record, Refusal};
     use table::{Raster, Shortfall, Sporadic};
@@ -64,7 +66,14 @@ mod tests {
         Ok(())
     }
 
-    // The loop stands in three examples. A function of it could not assert, and would have to hand back which text went wrong.
+    fn all_replay(rt: &impl Abort, heap: Global, cases: &[(&str, &str)]) -> Result<(), Fail> {
+        for (text, answer) in cases {
+            let written = replay(heap, text.as_bytes())?;
+            assert_eq!(rt; written.as_str(), *answer, "{}", text);
+        }
+        Ok(())
+    }
+
     #[test]
     fn answers_to_plans(rt: HostRuntime) -> Result<(), Fail> {
         let cases = [
@@ -121,11 +130,7 @@ mod tests {
                 "(refused 12 E (2 0))\n",
             ),
         ];
-        for (text, answer) in cases {
-            let written = replay(rt.alloc(), text.as_bytes())?;
-            assert_eq!(rt; written.as_str(), answer, "{}", text);
-        }
-        Ok(())
+        all_replay(&rt, rt.alloc(), &cases)
     }
 
     #[test]
@@ -150,11 +155,7 @@ mod tests {
                 "(accepted 2 3 (normal 1 1))\n(refused 1 T (3 1))\n",
             ),
         ];
-        for (text, answer) in cases {
-            let written = replay(rt.alloc(), text.as_bytes())?;
-            assert_eq!(rt; written.as_str(), answer, "{}", text);
-        }
-        Ok(())
+        all_replay(&rt, rt.alloc(), &cases)
     }
 
     #[test]

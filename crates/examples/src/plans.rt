@@ -1,4 +1,4 @@
-// The plan of the README, as a bank.
+// The plan of the README, as a bank. Crate `worked` makes such a bank for itself; here a refusal fails the test.
 
 use std::alloc::Global;
 use std::test::Fail;

@@ -14,7 +14,7 @@ use bank::{Bank, most_accepted};
 use stream::{Record, Refusal};
 use table::Sporadic;
 
-// Open for so many ticks by now, or shut. No Option, whose `None` would not say that the gate is shut.
+// Open, and for so many ticks by now, or shut. No Option, whose `None` would not say that the gate is shut.
 #[derive(Clone, Copy)]
 enum Gate {
     Open(u64),
@@ -22,17 +22,17 @@ enum Gate {
 }
 
 impl Gate {
-    // A tick later, where the gate is shut for one tick after each `every` ticks.
+    // A tick later, where the gate shuts at the tick after it was open for `every` ticks, and opens at the next.
     fn ticked(self, every: u64) -> Gate {
         match self {
             Gate::Open(passed) if passed < every => Gate::Open(passed + 1),
             Gate::Open(_) => Gate::Shut,
-            Gate::Shut => Gate::Open(1),
+            Gate::Shut => Gate::Open(0),
         }
     }
 }
 
-// While the gate is shut no release is accepted. It is shut for one tick after each `every` ticks, or never.
+// While the gate is shut no release is accepted. It shuts at the tick after it was open for `every` ticks, if ever, and opens at the next.
 #[derive(Drop)]
 pub struct Gated<B> {
     inner: B,

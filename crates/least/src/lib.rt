@@ -45,7 +45,7 @@ impl Ranked for Point {
     }
 }
 
-// Not one impl for every `X: Ord`: it would take from callers what they may do now, to rank a type that has an `Ord` by another order.
+// Not one impl for every `X: Ord`: that would ask more of callers, who may rank a type that has an `Ord` by another order, as the examples do.
 impl Ranked for (u64, u64) {
     ghost below = { pair_below };
 

@@ -1,7 +1,7 @@
 // The streams of a plan, in the tables that its bank joins.
 
-ghost use Rattle.std.specs.Prelude.{◌≡◌, ◌<◌, ◌≤◌, IfOk, MatchResult};
-ghost use Rattle.stream.specs.declared.Refusal.TheVariants.{TooManyStreams};
+ghost use Rattle.std.specs.Prelude.{◌≡◌, IfOk};
+ghost use Rattle.stream.specs.Rooms.{RoomTold};
 ghost use Rattle.plan.specs.Plans.{AddedRaster, AddedSporadic, no_rows, rows_in, size, tables_of};
 
 use bank::Bank;
@@ -38,7 +38,7 @@ impl Tables {
 
     // Whether a stream more has a place.
     fn has_room(&self) -> Result<(), Refusal>
-        ensures { MatchResult result (λ _. size (rows_in self.now) < 32) (λ refusal. (refusal ≡ TooManyStreams) × (32 ≤ size (rows_in self.now))) }
+        ensures { RoomTold (size (rows_in self.now)) result }
     {
         room_for_more(self.sporadic.streams() + self.raster.streams())
     }
@@ -55,7 +55,7 @@ impl Tables {
         self.sporadic.grow(record)
     }
 
-    // A stream on a raster more, unless there are 32 streams already or its numbers break a limit.
+    // A stream on a raster more, unless there are 32 streams already or its numbers break a limit. Not one function with the one before, which refuses by the order of lines between those two.
     pub(crate) fn add_raster(&mut self, row: Row, phase: u64) -> Result<(), Refusal>
         ensures { AddedRaster (rows_in self.old) row phase result (rows_in self.new) }
     {

@@ -5,7 +5,7 @@
 use server::{LONGEST_TEXT, replay};
 use std::io::{Read, Write};
 
-// The lines of `play` but for the call. A function of both would take the call as a closure; one of the reading alone would need a second answer, for a text too long.
+// The lines of `play` but for the call: six lines, where a function of both would have a crate of its own and a contract that speaks of any call.
 fn main(rt: HostRuntime) -> anyhow::Result<()> {
     let mut text = Vec::new(rt.alloc());
     rt.stdin().take(LONGEST_TEXT + 1).read_to_end(&mut text)?;

@@ -1,4 +1,5 @@
 pub mod Limits
+pub mod Rooms
 pub mod Making
 pub mod Refusals
 pub mod Faults

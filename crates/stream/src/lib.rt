@@ -2,10 +2,10 @@
 
 #![tactic(auto)]
 
-ghost use Rattle.std.specs.Prelude.{◌≡◌, ◌<◌, ◌≤◌, MatchResult};
+ghost use Rattle.std.specs.Prelude.{◌≡◌};
 ghost use Rattle.stream.specs.Faults.{placed, whole_line};
 ghost use Rattle.stream.specs.Refusals.{number, letter};
-ghost use Rattle.stream.specs.declared.Refusal.TheVariants.{TooManyStreams};
+ghost use Rattle.stream.specs.Rooms.{RoomTold};
 
 mod limits;
 mod shown;
@@ -152,7 +152,7 @@ impl From<Layer> for char {
 
 // Refuses a stream more where there are as many as there may be.
 pub fn room_for_more(streams: u64) -> Result<(), Refusal>
-    ensures { MatchResult result (λ _. streams < 32) (λ refusal. (refusal ≡ TooManyStreams) × (32 ≤ streams)) }
+    ensures { RoomTold streams result }
 {
     if streams < MOST_STREAMS as u64 {
         Ok(())

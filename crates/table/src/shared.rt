@@ -38,7 +38,7 @@ impl<S: Timed> State<S> {
     }
 }
 
-// The states of streams 1, 2 and so on. Since it keeps no invariant, that an act keeps its size is said of each of the five acts, and `Timetable` keeps the bounds by it.
+// The states of streams 1, 2 and so on. It keeps no invariant, which is a rule of this project; so that an act keeps its size is said of each of the five acts, and `Timetable` keeps the bounds by it.
 #[derive(Drop)]
 pub(crate) struct Table<S> {
     states: Vec<State<S>>,
@@ -107,7 +107,7 @@ impl<S: Timed> Table<S> {
         }
     }
 
-    // A moment later. By place, since one method changes a state, and accept and tick go by it: a rule of this project.
+    // A moment later. By place, since accept and tick both change a state by one method: a rule of this project.
     pub(crate) fn tick_all(&mut self)
         ensures states { states_of self.new ≡ map (ticked S.wait_after) (states_of self.old) }
         ensures size { SameSize self.old self.new }

@@ -37,7 +37,7 @@ impl fmt::Display for Answer {
 }
 
 impl Answer {
-    // The line with its newline, for who writes it to another place than the answers of a plan.
+    // The line with its newline, for callers of the library who write it to another place than the answers of a plan.
     pub fn to_line(&self, heap: Global) -> Result<String, AllocError>
         ensures { IfOk result (λ s. string_bytes s ≡ answer_line self.now ++ 10 ∷ []) }
     {

@@ -49,7 +49,7 @@ impl<'a, 'b, B: Bank> Asked<'a, 'b, B> {
         if m < seen.end {
             return seen;
         }
-        let level = told(self.bank, self.number, m as i64);
-        seen.moved(m, level, self.count, self.row.gap)
+        let level = told(self.bank, self.entry.number, m as i64);
+        seen.moved(m, level, self.entry.count, self.entry.row.gap)
     }
 }

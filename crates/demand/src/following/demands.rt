@@ -5,6 +5,7 @@ ghost use Rattle.demand.specs.Demands.{demand};
 ghost use Rattle.demand.specs.Following.{Upto};
 
 use crate::asked::Asked;
+use crate::entry::Entry;
 use crate::following::{Followed, Following};
 use crate::watch::Watch;
 use arrayvec::ArrayVec;
@@ -27,9 +28,11 @@ impl<'a, B: Bank> Following<'a, B> {
         for number in 1..bank.streams() + 1 {
             if let Some(record) = bank.record_of(number) {
                 following.streams.push(Followed {
-                    number,
-                    row: record.row(),
-                    count: bank.count(number).unwrap_or(0),
+                    entry: Entry {
+                        number,
+                        row: record.row(),
+                        count: bank.count(number).unwrap_or(0),
+                    },
                     watch: Watch::default(),
                 });
             }
@@ -53,9 +56,7 @@ impl<'a, B: Bank> Following<'a, B> {
                 stream.watch.ask(&Asked {
                     bank: self.bank,
                     phase: self.phase,
-                    number: stream.number,
-                    row: &stream.row,
-                    count: stream.count,
+                    entry: &stream.entry,
                     length,
                 });
             }

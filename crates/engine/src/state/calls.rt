@@ -31,7 +31,7 @@ impl<B: Bank> Engine<B> {
         self.state.verdict
     }
 
-    // A shut engine refuses every call.
+    // A shut engine refuses release, pick and calm.
     fn not_shut(&self) -> Result<(), Refusal>
         ensures { MatchResult result (λ _. is_shut self.now.state.verdict ≡ false) (λ e. (is_shut self.now.state.verdict ≡ true) × (e ≡ Shut)) }
     {
@@ -80,7 +80,7 @@ impl<B: Bank> Engine<B> {
         Ok(())
     }
 
-    // Gives the next turn out, if one can be. That the bank stays is a promise of this call, of pick and of calm, each for its own caller.
+    // Gives the next turn out, if one can be. That the bank stays is said of this call, of pick and of calm: of three calls each, no type could say it more plainly, since the others change the bank.
     fn hand_out(&mut self) -> Result<(), Refusal>
         ensures picked { MatchResult result (λ _. Picked self.old.state None self.new.state) (λ e. Picked self.old.state (Some e) self.new.state) }
         ensures bank { self.new.bank ≡ self.old.bank }

@@ -1,7 +1,7 @@
 // Making and growing a timetable, and shortening its streams.
 
-ghost use Rattle.std.specs.Prelude.{◌≡◌, ◌<◌, ◌≤◌, [], length, IfOk, MatchResult};
-ghost use Rattle.stream.specs.declared.Refusal.TheVariants.{TooManyStreams};
+ghost use Rattle.std.specs.Prelude.{◌≡◌, [], length, IfOk};
+ghost use Rattle.stream.specs.Rooms.{RoomTold};
 ghost use Rattle.table.specs.Growing.{Grown, GrownOn};
 ghost use Rattle.table.specs.Tables.{states_of};
 ghost use Rattle.table.specs.Shortening.{Shortening};
@@ -24,7 +24,7 @@ impl<S: Timed> Timetable<S> {
 
     // Whether a stream more has a place.
     fn has_room(&self) -> Result<(), Refusal>
-        ensures { MatchResult result (λ _. length (states_of self.now.table) < 32) (λ refusal. (refusal ≡ TooManyStreams) × (32 ≤ length (states_of self.now.table))) }
+        ensures { RoomTold (length (states_of self.now.table)) result }
     {
         room_for_more(self.table.streams())
     }
@@ -52,7 +52,7 @@ impl Timetable<Record> {
 }
 
 impl Timetable<OnRaster> {
-    // Adds a stream as the last one, if there are fewer than 32 and its phase is below its gap.
+    // Adds a stream as the last one, if there are fewer than 32 and its phase is below its gap. One function with the other `grow` would have to be told how a stream is made, and with which refusal.
     pub fn grow(&mut self, stream: Record, phase: u64) -> Result<(), Refusal>
         ensures { GrownOn self.old stream phase result self.new }
     {

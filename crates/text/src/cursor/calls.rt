@@ -9,7 +9,7 @@ use crate::cursor::{Cursor, Misfit, head};
 use crate::from_line::FromLine;
 
 impl<'a> Cursor<'a> {
-    // Whether a job is done, to the end of the line.
+    // Whether a job is done, to the end of the line. Told by its first character, as calls are.
     #[tactic(auto, using(crate::proofs::Calling::report_ends))]
     fn report(&mut self) -> Result<bool, Misfit>
         ensures { Reads report_bytes (λ _. Unit {0}) (ahead self.old) result (ahead self.new) }

@@ -11,6 +11,7 @@ use crate::line::Line;
 use stream::{Class, Row};
 
 impl<'a> Cursor<'a> {
+    // Told by its first character, as lines are.
     #[tactic(auto, using(crate::proofs::Grammar::class_ends))]
     fn class(&mut self) -> Result<Class, Misfit>
         ensures { Reads class_letter (λ _. Unit {0}) (ahead self.old) result (ahead self.new) }

@@ -8,27 +8,27 @@ use Rattle.demand.proofs.normal.normal_watch.Goals as goal
 pub returns-then-stream-row : goal.returns-then-stream-row
 returns-then-stream-row g c =
     let s = c.args.stream.now in
-    let r = s.row.now in
-    let N = g.B.Bank.kind.ceiling s.bank.now s.number in
+    let r = s.entry.now.row in
+    let N = g.B.Bank.kind.ceiling s.bank.now s.entry.now.number in
     let none = normal_early r N in
-    record {
-      value = sym (none s.length c.if-stream-row.true);
+    rw c.idle.ensures (record {
+      share = sym (none s.length c.if-stream-row.true);
       kept = early_kept Normal r N r.short s.length c.args.seen c.if-stream-row.true (unseen_still N r.short s.length c.args.seen c.if-stream-row.true c.requires) none;
-    }
+    })
 
 pub returns : goal.returns
 returns g c =
     let s = c.args.stream.now in
-    let r = s.row.now in
+    let r = s.entry.now.row in
     let k = g.B.Bank.kind in
-    let N = k.ceiling s.bank.now s.number in
+    let N = k.ceiling s.bank.now s.entry.now.number in
     let p = c.plateau-plateau.result in
     let on = c.plateau-plateau.ensures in
-    let w = listed_within k s.bank.now s.number r s.listed in
+    let w = listed_within k s.bank.now s.entry.now.number r s.entered.listed in
     let late = c.if-stream-row.false in
     let share = normal_asked r N s.length p late on in
     let ahead = on.ahead in
     record {
-      value = sym (share s.length (omega arith) (omega arith));
-      kept = asked_kept Normal r N r.short (λ t p seen. seen) s.length p (listed_ceiling k g.met.B.Bank.lawful s.bank.now s.number r s.listed) w late on (p.level * r.budget) (r.short + p.end) (omega arith) share (product_fits p.level r.budget on.small (budget_fits w));
+      share = sym (share s.length (omega arith) (omega arith));
+      kept = asked_kept Normal r N r.short (λ t p seen. seen) s.length p (listed_ceiling k g.met.B.Bank.lawful s.bank.now s.entry.now.number r s.entered.listed) w late on (p.level * r.budget) (r.short + p.end) (omega arith) share (product_fits p.level r.budget on.small (budget_fits w));
     }

@@ -14,19 +14,19 @@ plateau-plateau-requires-clause-seen g c = rw c.slack-slack.ensures c.requires.s
 pub less_done-requires : goal.less_done-requires
 less_done-requires g c =
     let s = c.args.stream.now in
-    let w = listed_within g.B.Bank.kind s.bank.now s.number s.row.now s.listed in
-    product_fits c.plateau-plateau.result.level s.row.now.certain c.plateau-plateau.ensures.small (certain_fits w c.requires.critical)
+    let w = listed_within g.B.Bank.kind s.bank.now s.entry.now.number s.entry.now.row s.entered.listed in
+    product_fits c.plateau-plateau.result.level s.entry.now.row.certain c.plateau-plateau.ensures.small (certain_fits w c.requires.critical)
 
 pub returns : goal.returns
 returns g c =
     let s = c.args.stream.now in
-    let r = s.row.now in
+    let r = s.entry.now.row in
     let k = g.B.Bank.kind in
-    let N = k.ceiling s.bank.now s.number in
+    let N = k.ceiling s.bank.now s.entry.now.number in
     let t = s.length in
     let p = c.plateau-plateau.result in
-    let w = listed_within k s.bank.now s.number r s.listed in
-    let law = listed_ceiling k g.met.B.Bank.lawful s.bank.now s.number r s.listed in
+    let w = listed_within k s.bank.now s.entry.now.number r s.entered.listed in
+    let law = listed_ceiling k g.met.B.Bank.lawful s.bank.now s.entry.now.number r s.entered.listed in
     let late = c.requires.late in
     let on : On N (t - slack r) p = rw c.slack-slack.ensures at c.plateau-plateau.ensures in
     let share = overrun_asked r N law w c.requires.critical t p late on in
@@ -39,6 +39,6 @@ returns g c =
       | else-since-row x ↦ (omega (arith, x.end-is, c.slack-slack.ensures), λ q from before. omega (arith, share q from (omega (arith, x.end-is, c.slack-slack.ensures)), is, x.if-since-row.false, c.slack-slack.ensures))
     ] in
     record {
-      value = sym now;
+      share = sym now;
       kept = asked_kept Overrun r N (slack r) (λ t p seen critical. seen) t p law w late on c.less_done.result c.if-since-row.end steady.0 steady.1 (let small = product_fits p.level r.certain on.small (certain_fits w c.requires.critical) in omega arith);
     }

@@ -10,18 +10,18 @@ use Rattle.demand.proofs.overrun.overrun_watch.Goals.{in-Background, in-Critical
 pub returns-then-stream-free : goal.returns-then-stream-free
 returns-then-stream-free g c =
     let s = c.args.stream.now in
-    let r = s.row.now in
-    let N = g.B.Bank.kind.ceiling s.bank.now s.number in
-    let free = c.match-stream.free in
+    let r = s.entry.now.row in
+    let N = g.B.Bank.kind.ceiling s.bank.now s.entry.now.number in
+    let free = c.match-row.free in
     let early = c.if-stream-free.true in
     let none : ((q : ℕ) → q < free → overrun_share r N q ≡ 0) × ((q : ℕ) → q ≤ free → Watched Overrun r N q c.args.seen) =
-    elim c.match-stream.branch [
+    elim c.match-row.branch [
       | in-Background x ↦ (λ q before. share_of_background r N q x.in-Background.is, λ q within critical. absurd (let z : ⊥ = cc in z))
       | in-Critical x ↦
           let is : free ≡ slack r = x.free-is ∙ x.slack-free.ensures in
           (λ q before. share_before_slack r N q (omega (arith, is)), λ q within critical. unseen_still N (slack r) s.length c.args.seen (omega (arith, is)) (c.requires critical) q (omega (arith, is)))
     ] in
-    record {
-      value = sym (none.0 s.length early);
+    rw c.idle.ensures (record {
+      share = sym (none.0 s.length early);
       kept = early_kept Overrun r N free s.length c.args.seen early none.1 none.0;
-    }
+    })

@@ -25,7 +25,7 @@ loop-number-preserved g c =
             i.1,
             i.2,
             omega (arith, next, w.push.ensures.len),
-            rw w.push.ensures.items (each_more (Follow k b c.args.phase 0) streams _ (rw next (record { numbered = refl; listed = listed; counted = counted; kept = kept })) i.4),
+            rw w.push.ensures.items (each_more (Follow k b c.args.phase 0) streams _ (rw next (record { numbered = refl; entered = record { listed = listed; counted = counted }; kept = kept })) i.4),
           )
       | in_default w ↦ search (rules, g.met.B.Bank.lawful.listed b n i.0 (omega (arith, c.streams-number-end.ensures, c.loop-number-test.true)))
     ]
