@@ -15,6 +15,13 @@ use Rattle.demand.specs.Watching.{On, Seen, Watched, Kept}
 use Rattle.demand.proofs.Plateaus.{plateau_share}
 use Rattle.demand.proofs.Watches.{on_after, on_later}
 
+module _ (r : Row) (N : ℕ → ℕ) (t : ℕ) (p : Plateau) where
+  pub seen_normal : Seen N (t - r.short) p → Watched Normal r N t p
+  seen_normal seen = record { normal = λ e. seen; overrun = λ e critical. let z : ⊥ = cc in absurd z }
+
+  pub seen_overrun : (r.class ≡ Critical → Seen N (t - slack r) p) → Watched Overrun r N t p
+  seen_overrun seen = record { normal = λ e. let z : ⊥ = cc in absurd z; overrun = λ e critical. seen critical }
+
 -- a stream that has no share below a length is not asked before it
 pub early_kept : (phase : Phase) (r : Row) (N : ℕ → ℕ) (before t : ℕ) (p : Plateau) → t < before → ((q : ℕ) → q ≤ before → Watched phase r N q p) → ((q : ℕ) → q < before → share_of phase r N q ≡ 0) → Kept phase r N (t + 1) (record { plateau = p; steady = record { share = 0; end = before } })
 early_kept phase r N before t p early still none = record {
@@ -78,5 +85,5 @@ new_kept phase r N w level end share until = record {
     }
 
     by_phase : (p : Phase) → Watched p r N 0 w.plateau
-    by_phase Normal = unseen r.short
-    by_phase Overrun = λ critical. unseen (slack r)
+    by_phase Normal = seen_normal r N 0 w.plateau (unseen r.short)
+    by_phase Overrun = seen_overrun r N 0 w.plateau (λ critical. unseen (slack r))

@@ -37,9 +37,9 @@ abbrev pub moved : Plateau → ℕ → ℕ → ℕ → ℕ → Plateau
 moved p m level k T = record { start = cond (level == p.level) p.start m; level = level; end = m + cond (level - p.level == k) T 1 }
 
 -- The same at a length: a stream is asked for the length less its short deadline, and in an overrun, if it is critical, less its slack.
-abbrev pub Watched : Phase → Row → (ℕ → ℕ) → ℕ → Plateau → Type 0
-Watched Normal r N t p = Seen N (t - r.short) p
-Watched Overrun r N t p = r.class ≡ Critical → Seen N (t - slack r) p
+pub record Watched (p : Phase) (r : Row) (N : ℕ → ℕ) (t : ℕ) (seen : Plateau) : Type 0 where
+  pub normal : p ≡ Normal → Seen N (t - r.short) seen
+  pub overrun : p ≡ Overrun → r.class ≡ Critical → Seen N (t - slack r) seen
 
 -- The share f is steady from length t on, below an end. No share is wider than 37 bits.
 pub record Holds (f : ℕ → ℕ) (t : ℕ) (s : Steady) : Type 0 where

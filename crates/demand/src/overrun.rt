@@ -3,12 +3,11 @@
 ghost use Rattle.std.specs.Prelude.{◌≡◌, ◌-◌, ◌*◌, ◌^◌, ◌<◌, ◌≤◌};
 ghost use Rattle.stream.specs.declared.Class.TheVariants.{Critical};
 ghost use Rattle.stream.specs.declared.Phase.TheVariants.{Overrun};
-ghost use Rattle.demand.specs.Asking.{Renews, curve};
+ghost use Rattle.demand.specs.Asking.{Renews};
 ghost use Rattle.demand.specs.Shares.{slack};
-ghost use Rattle.demand.specs.Watching.{Seen, Watched};
 
 use crate::asked::Asked;
-use crate::watch::{Plateau, Steady, Watch};
+use crate::watch::{Steady, Watch};
 use crate::{FARTHEST, slack};
 use bank::Bank;
 use stream::{Class, Row};
@@ -23,15 +22,15 @@ fn less_done(row: &Row, level: u64, since: u64) -> u64
 }
 
 // What is known once a critical stream is asked for its overrun share, from its slack on. Of all times that a carried-over job may have left, the worst is the longest on the plateau, so no other is tried. While that job does its budget, the share grows at each length.
-fn critical_watch<B: Bank>(stream: &Asked<B>, seen: Plateau) -> Watch
+fn critical_watch<B: Bank>(stream: &Asked<B>) -> Watch
+    requires phase { stream.now.phase ≡ Overrun }
     requires critical { stream.now.entry.now.row.class ≡ Critical }
     requires late { slack stream.now.entry.now.row ≤ stream.now.length }
-    requires seen { Seen (curve stream.now) (stream.now.length - slack stream.now.entry.now.row) seen }
     ensures { Renews stream.now Overrun result }
 {
     let row = &stream.entry.row;
     let slack = slack(row);
-    let plateau = stream.plateau(seen, slack);
+    let plateau = stream.plateau(slack);
     let since = stream.length - slack - plateau.start;
     let end = if since < row.budget {
         stream.length + 1
@@ -48,8 +47,8 @@ fn critical_watch<B: Bank>(stream: &Asked<B>, seen: Plateau) -> Watch
 }
 
 // What is known once a stream is asked for its overrun share: a background stream has none at any length that is looked at, and a critical one has none below its slack.
-pub(crate) fn overrun_watch<B: Bank>(stream: &Asked<B>, seen: Plateau) -> Watch
-    requires { Watched Overrun stream.now.entry.now.row (curve stream.now) stream.now.length seen }
+pub(crate) fn overrun_watch<B: Bank>(stream: &Asked<B>) -> Watch
+    requires { stream.now.phase ≡ Overrun }
     ensures { Renews stream.now Overrun result }
 {
     let row = &stream.entry.row;
@@ -58,7 +57,7 @@ pub(crate) fn overrun_watch<B: Bank>(stream: &Asked<B>, seen: Plateau) -> Watch
         Class::Critical => slack(row),
     };
     if stream.length < free {
-        return Watch::idle(seen, free);
+        return Watch::idle(stream.seen, free);
     }
-    critical_watch(stream, seen)
+    critical_watch(stream)
 }

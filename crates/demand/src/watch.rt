@@ -1,6 +1,6 @@
 // What is remembered of a stream in one phase, from length to length.
 
-mod sharing;
+mod idling;
 
 // The plateau of a stream's ceiling that was last looked at: where it began, its value, and below which m it is certain to go on. Before the first look its value is 0: no ceiling is 0, so the first look begins a plateau with no case of its own, as an Option would need.
 #[derive(Clone, Copy, Default)]

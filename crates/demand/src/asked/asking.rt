@@ -3,12 +3,15 @@
 ghost use Rattle.std.specs.Prelude.{◌≡◌, ◌-◌, ◌≤◌};
 ghost use Rattle.std.specs.Option.{unwrap_or};
 ghost use Rattle.bank.specs.Questions.{asked, told};
-ghost use Rattle.demand.specs.Asking.{curve};
+ghost use Rattle.demand.specs.Asking.{Renews, curve};
 ghost use Rattle.demand.specs.Watching.{On, Seen, moved};
 
 use crate::asked::Asked;
-use crate::watch::Plateau;
+use crate::normal::normal_watch;
+use crate::overrun::overrun_watch;
+use crate::watch::{Plateau, Watch};
 use bank::Bank;
+use stream::Phase;
 
 // What a bank tells of a stream's ceiling, and 0 where it tells nothing.
 fn told<B: Bank>(bank: &B, stream: u64, m: i64) -> u64
@@ -40,16 +43,29 @@ impl Plateau {
 
 impl<'a, 'b, B: Bank> Asked<'a, 'b, B> {
     // The plateau at `length - before`, asked for only where the one that was seen may have ended.
-    pub(crate) fn plateau(&self, seen: Plateau, before: u64) -> Plateau
+    pub(crate) fn plateau(&self, before: u64) -> Plateau
         requires late { before ≤ self.now.length }
-        requires seen { Seen (curve self.now) (self.now.length - before) seen }
+        requires seen { Seen (curve self.now) (self.now.length - before) self.now.seen }
         ensures { On (curve self.now) (self.now.length - before) result }
     {
         let m = self.length - before;
-        if m < seen.end {
-            return seen;
+        if m < self.seen.end {
+            return self.seen;
         }
         let level = told(self.bank, self.entry.number, m as i64);
-        seen.moved(m, level, self.entry.count, self.entry.row.gap)
+        self.seen
+            .moved(m, level, self.entry.count, self.entry.row.gap)
+    }
+
+    // What is remembered from here on: the share in the phase, and what was seen. It is kept out of line, so that what runs at every length stays small (docs/SPEED.md).
+    #[inline(never)]
+    pub(crate) fn watch(&self) -> Watch
+        ensures { Renews self.now self.now.phase result }
+    {
+        // The phase is at hand, where a closure would have to go with each stream through every length.
+        match self.phase {
+            Phase::Normal => normal_watch(self),
+            Phase::Overrun => overrun_watch(self),
+        }
     }
 }

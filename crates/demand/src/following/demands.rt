@@ -53,12 +53,14 @@ impl<'a, B: Bank> Following<'a, B> {
         let mut sum = 0;
         for stream in self.streams.iter_mut() {
             if stream.watch.steady.end <= length {
-                stream.watch.ask(&Asked {
+                let asked = Asked {
                     bank: self.bank,
                     phase: self.phase,
                     entry: &stream.entry,
+                    seen: stream.watch.plateau,
                     length,
-                });
+                };
+                stream.watch = asked.watch();
             }
             sum += stream.watch.steady.share;
         }

@@ -2,14 +2,14 @@ use Rattle.std.proofs.Common.{◌≡◌, ℕ, ◌+◌, ◌-◌, ◌*◌, ◌<◌
 use Rattle.stream.specs.declared.Phase.TheVariants.{Overrun}
 use Rattle.demand.specs.Shares.{overrun_share, slack}
 use Rattle.demand.specs.Watching.{On}
-use Rattle.demand.proofs.Keeping.{asked_kept, overrun_asked}
+use Rattle.demand.proofs.Keeping.{seen_overrun, asked_kept, overrun_asked}
 use Rattle.demand.proofs.Listing.{listed_within, listed_ceiling}
 use Rattle.demand.proofs.Widths.{product_fits, certain_fits}
 use Rattle.demand.proofs.overrun.critical_watch.Goals as goal
 use Rattle.demand.proofs.overrun.critical_watch.Goals.{then-since-row, else-since-row}
 
 pub plateau-plateau-requires-clause-seen : goal.plateau-plateau-requires-clause-seen
-plateau-plateau-requires-clause-seen g c = rw c.slack-slack.ensures c.requires.seen
+plateau-plateau-requires-clause-seen g c = rw c.slack-slack.ensures (c.args.stream.now.watched.overrun c.requires.phase c.requires.critical)
 
 pub less_done-requires : goal.less_done-requires
 less_done-requires g c =
@@ -40,5 +40,5 @@ returns g c =
     ] in
     record {
       share = sym now;
-      kept = asked_kept Overrun r N (slack r) (λ t p seen critical. seen) t p law w late on c.less_done.result c.if-since-row.end steady.0 steady.1 (let small = product_fits p.level r.certain on.small (certain_fits w c.requires.critical) in omega arith);
+      kept = asked_kept Overrun r N (slack r) (λ t p seen. seen_overrun r N t p (λ critical. seen)) t p law w late on c.less_done.result c.if-since-row.end steady.0 steady.1 (let small = product_fits p.level r.certain on.small (certain_fits w c.requires.critical) in omega arith);
     }

@@ -6,14 +6,14 @@ use Rattle.demand.proofs.Listing.{listed_within, listed_ceiling, listed_told}
 use Rattle.demand.proofs.Watches.{on_seen, on_moved}
 use Rattle.demand.proofs.asked.Asked.plateau.Goals as goal
 
-pub returns-then-m-seen : goal.returns-then-m-seen
-returns-then-m-seen g c =
+pub returns-then-m-self : goal.returns-then-m-self
+returns-then-m-self g c =
     let s = c.args.self.now in
     let k = g.B.Bank.kind in
     let law = listed_ceiling k g.met.B.Bank.lawful s.bank.now s.entry.now.number s.entry.now.row s.entered.listed in
     let w = listed_within k s.bank.now s.entry.now.number s.entry.now.row s.entered.listed in
     let near = s.within in
-    on_seen law w (s.length - c.args.before) c.args.seen (omega arith) c.requires.seen c.if-m-seen.true
+    on_seen law w (s.length - c.args.before) s.seen (omega arith) c.requires.seen c.if-m-self.true
 
 pub returns : goal.returns
 returns g c =
@@ -27,6 +27,6 @@ returns g c =
     let within : m ≤ 1000000 = omega arith in
     let answer : c.told-level.result ≡ unwrap_or (told (k.records s.bank.now s.entry.now.number) N (asked (pos m))) 0 = search rules in
     let level : c.told-level.result ≡ N m = answer ∙ listed_told k s.bank.now s.entry.now.number s.entry.now.row s.entered.listed m within in
-    let made : c.moved.result ≡ moved c.args.seen m (N m) (k.count s.bank.now s.entry.now.number) s.entry.now.row.gap =
-    c.moved.ensures ∙ ap (λ x. moved c.args.seen m x s.entry.now.count s.entry.now.row.gap) level ∙ ap (λ x. moved c.args.seen m (N m) x s.entry.now.row.gap) s.entered.counted in
-    subst (On N m) (sym made) (on_moved law w m c.args.seen within c.requires.seen)
+    let made : c.moved.result ≡ moved s.seen m (N m) (k.count s.bank.now s.entry.now.number) s.entry.now.row.gap =
+    c.moved.ensures ∙ ap (λ x. moved s.seen m x s.entry.now.count s.entry.now.row.gap) level ∙ ap (λ x. moved s.seen m (N m) x s.entry.now.row.gap) s.entered.counted in
+    subst (On N m) (sym made) (on_moved law w m s.seen within c.requires.seen)

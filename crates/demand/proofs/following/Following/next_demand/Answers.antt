@@ -30,7 +30,7 @@ loop-stream-preserved g c =
     let stream = c.if-stream-length.stream in
     let done : Passed k b s.phase t (i + 1) stream =
     elim c.if-stream-length.branch [
-      | then-stream-length w ↦ rw w.stream-is (passed_asked k b s.phase t (i + 1) here _ w.ask.ensures.share w.ask.ensures.kept)
+      | then-stream-length w ↦ rw w.stream-is (passed_asked k b s.phase t (i + 1) here _ w.watch-stream.ensures.share w.watch-stream.ensures.kept)
       | else-stream-length w ↦ rw w.stream-is (passed_steady k b s.phase t (i + 1) here w.if-stream-length.false)
     ] in (
       total_step i c.loop-stream.sum stream.watch.steady.share (asks k b s.phase t) c.loop-stream.invariant.0 done.0,
