@@ -1,13 +1,19 @@
 -- The rules over whole numbers, from the laws over natural ones.
 
-use Rattle.std.proofs.Common.{◌≡◌, ℕ, suc, ◌+◌, ◌-◌, ◌<◌, ◌≤◌, ℤ, pos, negsuc, ◌+ℤ◌, neg_ℤ, ◌≤ℤ◌, ◌<ℤ◌, Some, sym, ap, ◌∙◌, arith}
+use Rattle.std.proofs.Common.{◌≡◌, ℕ, suc, ◌+◌, ◌-◌, ◌<◌, ◌≤◌, ℤ, pos, negsuc, ◌+ℤ◌, neg_ℤ, ◌≤ℤ◌, ◌<ℤ◌, true, is_some, Some, None, Option, sym, refl, ap, ◌∙◌, arith}
+use borrow.Author.Tests.{clash}
 use Rattle.std.proofs.lemmas.Int.{ints}
 use Rattle.stream.specs.declared.limits.Record.{Record}
 use Rattle.bank.specs.Ceilings.{back}
 use Rattle.bank.specs.Kinds.{Kind}
 use Rattle.bank.specs.Laws.{Laws}
-use Rattle.bank.specs.Rules.{level, Rules}
+use Rattle.bank.specs.Rules.{level, Rules, Whole}
 use Rattle.bank.proofs.Backs.{back_before, back_after}
+
+-- what is there is one record
+pub found : (o : Option Record) → is_some o ≡ true → (r : Record) × (o ≡ Some r)
+found None e = absurd (clash e)
+found (Some r) e = (r, refl)
 
 single_level : (N : ℕ → ℕ) (D : ℕ) → ((m : ℕ) → m < D → N m ≡ 1) → (m : ℤ) → pos 0 ≤ℤ m → m <ℤ pos D → level N m ≡ 1
 single_level N D one (pos m) from h = one m (omega (arith, ints))
@@ -41,6 +47,16 @@ next_level f g h (negsuc m) = omega arith
 less_level : (f g : ℕ → ℕ) → ((m : ℕ) → f m + 1 ≤ g m) → (m : ℤ) → pos 0 ≤ℤ m → level f m + 1 ≤ level g m
 less_level f g h (pos m) from = h m
 less_level f g h (negsuc m) from = let z : ⊥ = omega (arith, ints) in absurd z
+
+pub whole_holds : {S : Type 0} (k : Kind S) → Laws k → (b : S) → Whole k b
+whole_holds k l b = record {
+  few = l.few b;
+  listed = l.listed b;
+  numbered = λ i some. let r = found (k.records b i) some in l.numbered b i r.0 r.1;
+  begins = λ c moment t. (l.begin_keeps b c moment t, l.begin_begins b c moment t);
+  ticks = λ c t. (l.tick_keeps b c t, λ on. l.tick_begun b c on t);
+  accepts = λ c i t. (l.accept_keeps b c i t, λ on. l.accept_begun b c i on t);
+}
 
 pub rules_hold : {S : Type 0} (k : Kind S) → Laws k → (b : S) (i : ℕ) (r : Record) → k.records b i ≡ Some r → Rules k b i r
 rules_hold k l b i r e =

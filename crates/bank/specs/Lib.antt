@@ -5,3 +5,5 @@ pub mod Laws
 pub mod Accepting
 pub mod Runs
 pub mod Rules
+pub mod Loosest
+pub mod LoosestLemmas

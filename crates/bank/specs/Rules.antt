@@ -1,8 +1,19 @@
--- The rules of every bank over whole numbers, below 0 too, as they are said in words. N and O are 0 below 0.
+-- The rules of every bank as they are said in words: of the whole bank, and of a stream over whole numbers, below 0 too. N and O are 0 below 0.
 
-use Rattle.std.specs.Prelude.{◌≡◌, ℕ, ◌+◌, ◌<◌, ◌≤◌, ℤ, pos, negsuc, ◌+ℤ◌, neg_ℤ, ◌≤ℤ◌, ◌<ℤ◌, ◌≢◌}
+use Rattle.std.specs.Prelude.{◌≡◌, ℕ, ◌+◌, ◌<◌, ◌≤◌, true, is_some, ℤ, pos, negsuc, ◌+ℤ◌, neg_ℤ, ◌≤ℤ◌, ◌<ℤ◌, ◌≢◌}
 use Rattle.stream.specs.declared.limits.Record.{Record}
 use Rattle.bank.specs.Kinds.{Kind}
+use Rattle.bank.specs.Laws.{Same}
+
+pub record Whole {S : Type 0} (k : Kind S) (b : S) : Type 0 where
+  -- at most 33 streams, numbered from 1, and no other
+  pub few : k.streams b ≤ 33
+  pub listed : (i : ℕ) → 1 ≤ i → i ≤ k.streams b → is_some (k.records b i) ≡ true
+  pub numbered : (i : ℕ) → is_some (k.records b i) ≡ true → (1 ≤ i) × (i ≤ k.streams b)
+  -- no act changes a record, a count, a ceiling or the number of streams; and a bank is begun by a begin, and stays so
+  pub begins : (c : S) (moment : ℕ) → k.begins b moment c → Same k b c × k.begun c
+  pub ticks : (c : S) → k.ticks b c → Same k b c × (k.begun b → k.begun c)
+  pub accepts : (c : S) (i : ℕ) → k.accepts b i c → Same k b c × (k.begun b → k.begun c)
 
 abbrev pub level : (ℕ → ℕ) → ℤ → ℕ
 level f (pos m) = f m

@@ -8,7 +8,7 @@ ghost use Rattle.bank.specs.Accepting.{Accepted};
 ghost use Rattle.bank.specs.Kinds.{Kind};
 ghost use Rattle.bank.specs.Laws.{Laws};
 ghost use Rattle.bank.specs.Questions.{asked, told, counted, spanned};
-ghost use Rattle.bank.specs.Rules.{Rules};
+ghost use Rattle.bank.specs.Rules.{Rules, Whole};
 ghost use Rattle.bank.specs.Runs.{AtMost};
 
 use stream::{Record, Refusal};
@@ -94,10 +94,11 @@ pub fn most_accepted<B: Bank>(bank: &B, stream: u64, moments: u64) -> Option<u64
     bank.ceiling(stream, moments as i64 - 1)
 }
 
-// Whether a stream exists. If so, the rules on ceilings and openings hold of it, said over whole numbers.
+// Whether a stream exists. If so, the rules on ceilings and openings hold of it, said over whole numbers; the rules on the bank as a whole hold in any case. What questions answer and what is refused, the trait says.
 pub fn has_stream<B: Bank>(bank: &B, stream: u64) -> bool
     ensures there { result ≡ true → (rec : Rec) × (B.kind.records bank.now stream ≡ Some rec) × Rules B.kind bank.now stream rec }
     ensures absent { result ≡ false → B.kind.records bank.now stream ≡ None }
+    ensures whole { Whole B.kind bank.now }
 {
     bank.record_of(stream).is_some()
 }

@@ -158,6 +158,32 @@ mod tests {
         all_replay(&rt, rt.alloc(), &cases)
     }
 
+    // The 33rd stream is refused before its kind and its numbers are looked at, and its kind before its numbers.
+    #[test]
+    fn the_first_fault_of_a_line(rt: HostRuntime) -> Result<(), Fail> {
+        let mut full = String::new(rt.alloc());
+        for _ in 0..MOST_STREAMS {
+            full.push_str("(R L (1 0) (64 64) 64 0)\n")?;
+        }
+        for last in [
+            "(S L (1 0) (2 2) 2)\n",
+            "(R L (1 0) (2 2) 0 0)\n",
+            "(S L (1 0) (2 2) 0)\n",
+        ] {
+            let text = format!(in rt.alloc(); "{full}{last}(go 0)\n")?;
+            assert_eq!(rt;
+                replay(rt.alloc(), text.as_bytes())?.as_str(),
+                "(refused 2 P (33 0))\n"
+            );
+        }
+        let text = "(R L (1 0) (2 2) 2 0)\n(S L (1 0) (2 2) 0)\n(go 0)\n";
+        assert_eq!(rt;
+            replay(rt.alloc(), text.as_bytes())?.as_str(),
+            "(refused 3 P (2 0))\n"
+        );
+        Ok(())
+    }
+
     #[test]
     fn scripts(rt: HostRuntime) -> Result<(), Fail> {
         let cases = [
@@ -227,6 +253,12 @@ mod tests {
             assert_eq!(rt; bank.opening(2, m), told);
             assert_eq!(rt; bank.ceiling(3, m), None);
         }
+        assert_eq!(rt; bank.record_of(2).map(|record| record.row()), Some(PREVIEW));
+        assert_eq!(rt; bank.count(2), Some(1));
+        for absent in [0, 3, 33, 34] {
+            assert!(rt; bank.record_of(absent).is_none());
+            assert_eq!(rt; bank.count(absent), None);
+        }
         Ok(())
     }
 
@@ -278,6 +310,15 @@ mod tests {
         assert_eq!(rt; bank.accept(33), Ok(()));
         assert_eq!(rt; bank.accept(33), Err(Refusal::NotOpen));
         assert_eq!(rt; bank.accept(34), Err(Refusal::NoSuchStream));
+        assert_eq!(rt;
+            bank.record_of(33).map(|record| record.row()),
+            Some(PREVIEW)
+        );
+        assert_eq!(rt; bank.count(33), Some(1));
+        for absent in [0, 34] {
+            assert!(rt; bank.record_of(absent).is_none());
+            assert_eq!(rt; bank.count(absent), None);
+        }
         bank.tick();
         assert_eq!(rt; bank.opening(33, 5), Some(1));
         assert_eq!(rt; bank.opening(32, 5), Some(1));

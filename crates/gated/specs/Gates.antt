@@ -2,6 +2,7 @@
 
 use Rattle.std.specs.Prelude.{◌≡◌, ℕ, cond, ◌==◌}
 use Rattle.bank.specs.Kinds.{Kind}
+use Rattle.bank.specs.Loosest.{loosest}
 use Rattle.gated.specs.declared.Gate.{Gate}
 use Rattle.gated.specs.declared.Gate.TheVariants.{Open, Shut}
 use Rattle.gated.specs.declared.Gated.{Gated}
@@ -14,8 +15,8 @@ abbrev pub behind : Gate → (ℕ → ℕ) → ℕ → ℕ
 behind (Open passed) opening m = opening m
 behind Shut opening m = cond (m == 0) 0 (opening m)
 
-abbrev pub gated : {B : Type 0} → Kind B → Kind (Gated B)
-gated k = record {
+abbrev pub behind_gate : {B : Type 0} → Kind B → Kind (Gated B)
+behind_gate k = record {
   -- G
   letter = 71;
   streams = λ b. k.streams b.inner;
@@ -29,3 +30,7 @@ gated k = record {
   -- only through an open gate
   accepts = λ b i c. IsOpen b.gate × k.accepts b.inner i c.inner;
 }
+
+-- of an act a caller learns what holds of every bank, and no more
+abbrev pub gated : {B : Type 0} → Kind B → Kind (Gated B)
+gated k = loosest (behind_gate k)

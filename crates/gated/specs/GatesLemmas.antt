@@ -5,7 +5,8 @@ use Rattle.std.proofs.Common.{arith, ap}
 use Rattle.std.proofs.lemmas.Bool.{cond_both, eqb-true}
 use Rattle.bank.specs.Kinds.{Kind}
 use Rattle.bank.specs.Laws.{Laws, Same}
-use Rattle.gated.specs.Gates.{IsOpen, behind, gated}
+use Rattle.bank.specs.LoosestLemmas.{loosest_lawful}
+use Rattle.gated.specs.Gates.{IsOpen, behind, behind_gate, gated}
 use Rattle.gated.specs.declared.Gate.{Gate}
 use Rattle.gated.specs.declared.Gate.TheVariants.{Open, Shut}
 use Rattle.gated.specs.declared.Gated.{Gated}
@@ -24,7 +25,7 @@ behind_later : (gate : Gate) (f : ℕ → ℕ) (m : ℕ) → behind gate f (m + 
 behind_later (Open passed) f m = refl
 behind_later Shut f m = cond_both (m + 1 == 0) 0 (f (m + 1)) (λ n. n ≡ f (m + 1)) (λ e. let is = eqb-true (m + 1) 0 e in let z : ⊥ = omega arith in absurd z) (λ e. refl)
 
-same_inner : {B : Type 0} (k : Kind B) (b c : Gated B) → Same k b.inner c.inner → Same (gated k) b c
+same_inner : {B : Type 0} (k : Kind B) (b c : Gated B) → Same k b.inner c.inner → Same (behind_gate k) b c
 same_inner k b c same = record {
   streams = same.streams;
   records = same.records;
@@ -32,8 +33,8 @@ same_inner k b c same = record {
   ceiling = same.ceiling;
 }
 
-pub gated_lawful : {B : Type 0} (k : Kind B) → Laws k → Laws (gated k)
-gated_lawful k l = record {
+pub behind_gate_lawful : {B : Type 0} (k : Kind B) → Laws k → Laws (behind_gate k)
+behind_gate_lawful k l = record {
   few = λ b. l.few b.inner;
   listed = λ b i some most. l.listed b.inner i some most;
   numbered = λ b i r e. l.numbered b.inner i r e;
@@ -49,3 +50,6 @@ gated_lawful k l = record {
   accepted = λ b c i r m on e free t. omega (arith, behind_at_most c.gate (k.opening c.inner i) m, behind_open b.gate (k.opening b.inner i) m t.0, l.accepted b.inner c.inner i r m on e (omega (arith, free, behind_open b.gate (k.opening b.inner i) 0 t.0)) t.1);
   others = λ b c i j r m on e apart t. omega (arith, behind_at_most c.gate (k.opening c.inner j) m, behind_open b.gate (k.opening b.inner j) m t.0, l.others b.inner c.inner i j r m on e apart t.1);
 }
+
+pub gated_lawful : {B : Type 0} (k : Kind B) → Laws k → Laws (gated k)
+gated_lawful k l = loosest_lawful (behind_gate k) (behind_gate_lawful k l)
