@@ -15,7 +15,7 @@ mod tests {
     use demand::{admit, demand_at, load, sporadic_share};
     use join::Joined;
     use plan::{Answers, Tables, open_plan};
-    use script::play;
+    use script::{check, play};
     use server::replay;
     use std::alloc::Global;
     use std::process::Abort;
@@ -156,6 +156,26 @@ mod tests {
             ),
         ];
         all_replay(&rt, rt.alloc(), &cases)
+    }
+
+    // What a server in C is told of a plan of stream lines alone.
+    #[test]
+    fn numbers_for_c(rt: HostRuntime) {
+        let cases = [
+            ("(S H (2 4) (2 6) 6)\n(S L (4 0) (6 6) 6)\n", 0i64),
+            ("(S H (2 4) (2 6) 6)\n(S L (5 0) (6 6) 6)\n", 11),
+            (
+                "(S L (1 0) (1000 1000) 1000)\n(S L (1 0) (1001 1001) 1001)\n",
+                10,
+            ),
+            ("", 9),
+            ("(R H (2 4) (2 6) 6 6)\n", 8),
+            ("(S L (1 0) (2 2) 0)\n", 4),
+            ("(S L (1 0) (2 2) 2)\n(go 0)\n", 1),
+        ];
+        for (text, number) in cases {
+            assert_eq!(rt; check(rt.alloc(), text.as_bytes()), number, "{}", text);
+        }
     }
 
     // The 33rd stream is refused before its kind and its numbers are looked at, and its kind before its numbers.
