@@ -15,8 +15,7 @@ mod tests {
     use demand::{admit, demand_at, load, sporadic_share};
     use join::Joined;
     use plan::{Answers, Tables, open_plan};
-    use script::{check, play};
-    use server::replay;
+    use script::{check, replay};
     use std::alloc::Global;
     use std::process::Abort;
     use std::test::Fail;
@@ -220,11 +219,7 @@ mod tests {
                 "(accepted 2 3 (normal 1 1))\n(ran 0 idle)\n(took 1)\n(ran 1 cut)\n(refused 1 T (6 7))\n",
             ),
         ];
-        for (text, answer) in cases {
-            let written = play(rt.alloc(), text.as_bytes())?;
-            assert_eq!(rt; written.as_str(), answer, "{}", text);
-        }
-        Ok(())
+        all_replay(&rt, rt.alloc(), &cases)
     }
 
     // What memory is asked for is had: the tables of a plan, and the text of an answer.

@@ -1,11 +1,10 @@
-// Reads a plan on standard input and prints what the server answers to it.
+// Reads a plan and its script on standard input, runs it and prints what is answered.
 
 #![tactic(auto)]
 
-use server::{LONGEST_TEXT, replay};
+use script::{LONGEST_TEXT, replay};
 use std::io::{Read, Write};
 
-// The lines of `play` but for the call: six lines, where a function of both would have a crate of its own and a contract that speaks of any call.
 fn main(rt: HostRuntime) -> anyhow::Result<()> {
     let mut text = Vec::new(rt.alloc());
     rt.stdin().take(LONGEST_TEXT + 1).read_to_end(&mut text)?;

@@ -1,4 +1,4 @@
--- What play writes for a text.
+-- What replay writes for a text.
 
 use Rattle.std.specs.Prelude.{◌≡◌, ℕ, List, [], ◌∷◌}
 use Rattle.stream.specs.declared.Fault.{Fault}

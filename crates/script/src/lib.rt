@@ -18,8 +18,11 @@ use verdicts::{check_plan, number_of};
 // What check answers for want of memory: a number below every refusal's, and so check's answer is signed, since the C interface has one number for all.
 const NO_MEMORY: i64 = -1;
 
-// Reads a plan, judges it and runs the script after it, one answer to a line. `server::replay` says why its lines are not shared.
-pub fn play(heap: Global, text: &[u8]) -> Result<String, AllocError>
+// The longest text, in bytes, that the program reads.
+pub const LONGEST_TEXT: u64 = 65536;
+
+// Reads a plan, judges it and runs the script after it, one answer to a line.
+pub fn replay(heap: Global, text: &[u8]) -> Result<String, AllocError>
     ensures { IfOk result (λ s. Replayed text.now (string_bytes s)) }
 {
     let mut answers = Answers::new(heap);
