@@ -23,3 +23,9 @@ module _ {S : Type 0} (k : Kind S) (b : S) where
 -- they are followed up to length t
 abbrev pub Upto : {S : Type 0} → Kind S → Following S → ℕ → Type 0
 Upto k f t = Follows k f.bank.now f.phase t f.streams.items
+
+-- past length t, the same streams in the same phase are followed up to the next
+pub record Onward {S : Type 0} (k : Kind S) (f : Following S) (t : ℕ) (g : Following S) : Type 0 where
+  pub bank : g.bank.now ≡ f.bank.now
+  pub phase : g.phase ≡ f.phase
+  pub upto : Upto k g (t + 1)

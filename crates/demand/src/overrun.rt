@@ -46,7 +46,7 @@ fn critical_watch<B: Bank>(stream: &Asked<B>) -> Watch
     }
 }
 
-// What is known once a stream is asked for its overrun share: a background stream has none at any length that is looked at, and a critical one has none below its slack.
+// What is known once a stream is asked for its overrun share: a background stream has none at any length that is looked at, and a critical one has none below its slack. An end past all lengths serves like any other, so no Option.
 pub(crate) fn overrun_watch<B: Bank>(stream: &Asked<B>) -> Watch
     requires { stream.now.phase ≡ Overrun }
     ensures { Renews stream.now Overrun result }

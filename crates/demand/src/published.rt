@@ -1,4 +1,4 @@
-// The overrun share of one stream with a release in each gap, as it is published: by one division, where the scan goes from length to length.
+// The overrun share of one stream with a release in each gap, as it is published: in closed form, where the scan goes from length to length.
 
 ghost use Rattle.std.specs.Prelude.{◌≡◌, ◌≤◌};
 ghost use Rattle.demand.specs.Published.{ShareTold, closed, deducted};

@@ -3,7 +3,7 @@
 ghost use Rattle.std.specs.Prelude.{◌≡◌, ◌+◌, ◌<◌, ◌≤◌, MatchResult};
 ghost use Rattle.least.specs.Firsts.{FirstLeast};
 ghost use Rattle.least.specs.Orders.{by_margin, point_below};
-ghost use Rattle.demand.specs.Following.{Upto};
+ghost use Rattle.demand.specs.Following.{Onward, Upto};
 ghost use Rattle.demand.specs.Verdicts.{InReach, Accepts, Passes, Refuses, Stops, candidates};
 
 use crate::following::Following;
@@ -16,9 +16,7 @@ fn look<B: Bank>(streams: &mut Following<B>, length: u64, horizon: u64) -> Resul
     requires within { length ≤ 1000000 }
     requires upto { Upto B.kind streams.old length }
     ensures cases { MatchResult result (λ point. Passes B.kind streams.old.bank.now streams.old.phase length point) (λ e. Stops B.kind streams.old.bank.now horizon streams.old.phase length e) }
-    ensures bank { streams.new.bank.now ≡ streams.old.bank.now }
-    ensures phase { streams.new.phase ≡ streams.old.phase }
-    ensures upto { Upto B.kind streams.new (length + 1) }
+    ensures onward { Onward B.kind streams.old length streams.new }
 {
     let point = Point {
         phase: streams.phase,
@@ -42,7 +40,7 @@ fn closer(point: Point, other: Point) -> bool
     point.margin < other.margin
 }
 
-// Keeps the nearest point, once those of another length are there. Length 0 can be exceeded, but is no candidate. It is kept in place, and written only where something may come nearer: handed through a call at each length, its unused bytes cost half the time of two streams (docs/SPEED.md).
+// Keeps the nearest point, once those of another length are there. Length 0 can be exceeded, but is no candidate. It is kept in place, and written only where something may come nearer: handed through a call at each length, its unused bytes would be copied at each (docs/SPEED.md).
 fn keep_nearest(nearest: &mut Option<Point>, length: u64, normal: Point, overrun: Point)
     ensures first { length ≡ 0 → nearest.new ≡ nearest.old }
     ensures later { 0 < length → FirstLeast point_below (candidates nearest.old normal overrun) nearest.new }

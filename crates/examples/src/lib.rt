@@ -157,7 +157,7 @@ mod tests {
         all_replay(&rt, rt.alloc(), &cases)
     }
 
-    // What a server in C is told of a plan of stream lines alone.
+    // What a server in C is told of a plan.
     #[test]
     fn numbers_for_c(rt: HostRuntime) {
         let cases = [

@@ -62,7 +62,7 @@ impl<'a, 'b, B: Bank> Asked<'a, 'b, B> {
     pub(crate) fn watch(&self) -> Watch
         ensures { Renews self.now self.now.phase result }
     {
-        // The phase is at hand, where a closure would have to go with each stream through every length.
+        // By the phase at hand. Two types with a trait, as it was, make each loop and each memory generic for these two lines.
         match self.phase {
             Phase::Normal => normal_watch(self),
             Phase::Overrun => overrun_watch(self),

@@ -1,8 +1,8 @@
 // The demand of a whole bank in one phase, one length after another.
 
-ghost use Rattle.std.specs.Prelude.{◌≡◌, ◌+◌, ◌^◌, ◌≤◌};
+ghost use Rattle.std.specs.Prelude.{◌≡◌, ◌^◌, ◌≤◌};
 ghost use Rattle.demand.specs.Demands.{demand};
-ghost use Rattle.demand.specs.Following.{Upto};
+ghost use Rattle.demand.specs.Following.{Onward, Upto};
 
 use crate::asked::Asked;
 use crate::entry::Entry;
@@ -46,9 +46,7 @@ impl<'a, B: Bank> Following<'a, B> {
         requires upto { Upto B.kind self.old length }
         ensures value { result ≡ demand B.kind self.old.bank.now self.old.phase length }
         ensures bound { result ≤ 2 ^ 43 }
-        ensures bank { self.new.bank.now ≡ self.old.bank.now }
-        ensures phase { self.new.phase ≡ self.old.phase }
-        ensures upto { Upto B.kind self.new (length + 1) }
+        ensures onward { Onward B.kind self.old length self.new }
     {
         let mut sum = 0;
         for stream in self.streams.iter_mut() {

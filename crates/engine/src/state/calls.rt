@@ -80,7 +80,7 @@ impl<B: Bank> Engine<B> {
         Ok(())
     }
 
-    // Gives the next turn out, if one can be. That the bank stays is said of this call, of pick and of calm: of three calls each, no type could say it more plainly, since the others change the bank.
+    // Gives the next turn out, if one can be. That the bank stays, pick and calm promise to their callers, and pick has it from here; no type says it where the bank is within reach.
     fn hand_out(&mut self) -> Result<(), Refusal>
         ensures picked { MatchResult result (λ _. Picked self.old.state None self.new.state) (λ e. Picked self.old.state (Some e) self.new.state) }
         ensures bank { self.new.bank ≡ self.old.bank }

@@ -16,11 +16,11 @@ loop-length-preserved g c =
     let normal : Passes k b Normal t c.in_ok-normal.normal = rw (i.1, i.2) at normals.cases in
     let overrun : Passes k b Overrun t c.in_ok-overrun.overrun = rw (i.4, i.5) at overruns.cases in (
       below_more (λ s. Fits k b s) t i.0 (normal.fits, overrun.fits),
-      normals.bank ∙ i.1,
-      normals.phase ∙ i.2,
-      normals.upto,
-      overruns.bank ∙ i.4,
-      overruns.phase ∙ i.5,
-      overruns.upto,
+      normals.onward.bank ∙ i.1,
+      normals.onward.phase ∙ i.2,
+      normals.onward.upto,
+      overruns.onward.bank ∙ i.4,
+      overruns.onward.phase ∙ i.5,
+      overruns.onward.upto,
       nearest_upto k b t (t + 1 - 1) c.loop-length.nearest c.in_ok-normal.normal c.in_ok-overrun.overrun c.keep_nearest.new.nearest (omega arith) normal.is overrun.is i.7 c.keep_nearest.ensures.first c.keep_nearest.ensures.later,
     )
