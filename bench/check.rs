@@ -1,11 +1,13 @@
 //! Times the exported check beside plain Rust (plain.rs), on the same plans in one run.
 
+mod draw;
 mod plain;
 
+use draw::Draw;
 use std::hint::black_box;
 use std::time::{Duration, Instant};
 
-#[link(name = "server", kind = "static")]
+#[link(name = "finchbronze", kind = "static")]
 #[link(name = "libc_c", kind = "static")]
 unsafe extern "C" {
     fn check(text: *const u8, length: usize) -> i64;
@@ -34,15 +36,7 @@ fn race(plans: &[Vec<u8>]) -> (Duration, Duration) {
     best
 }
 
-/// Numbers by a linear congruence, the same in every run.
-struct Draw(u64);
-
 impl Draw {
-    fn below(&mut self, bound: u64) -> u64 {
-        self.0 = self.0.wrapping_mul(6364136223846793005).wrapping_add(1442695040888963407);
-        (self.0 >> 33) % bound
-    }
-
     /// From `low` to `high`, or now and then one past an end.
     fn near(&mut self, low: u64, high: u64) -> u64 {
         match self.below(64) {

@@ -2,13 +2,13 @@
 
 use std::str::FromStr;
 
-struct Stream {
-    critical: bool,
-    budget: u64,
-    certain: u64,
-    short: u64,
-    deadline: u64,
-    gap: u64,
+pub struct Stream {
+    pub critical: bool,
+    pub budget: u64,
+    pub certain: u64,
+    pub short: u64,
+    pub deadline: u64,
+    pub gap: u64,
 }
 
 const OUT_OF_SHAPE: i64 = 1;
@@ -16,7 +16,7 @@ const MOST_STREAMS: usize = 32;
 const FARTHEST: u64 = 1_000_000;
 
 /// The number that the text begins with, and what comes after it.
-fn number(text: &[u8]) -> Option<(u64, &[u8])> {
+pub fn number(text: &[u8]) -> Option<(u64, &[u8])> {
     let digits = text.iter().take_while(|b| b.is_ascii_digit()).count();
     let fits = match text.first() {
         Some(b'0') => digits == 1,
@@ -30,7 +30,7 @@ fn number(text: &[u8]) -> Option<(u64, &[u8])> {
 }
 
 /// The row, with its phase if it is on a raster, and the text after the line.
-fn line(text: &[u8]) -> Option<(Stream, Option<u64>, &[u8])> {
+pub fn line(text: &[u8]) -> Option<(Stream, Option<u64>, &[u8])> {
     let (raster, text) = match text.strip_prefix(b"(S ") {
         Some(text) => (false, text),
         None => (true, text.strip_prefix(b"(R ")?),
@@ -87,14 +87,14 @@ impl Stream {
         }
     }
 
-    fn normal_share(&self, length: u64) -> u64 {
+    pub fn normal_share(&self, length: u64) -> u64 {
         if length < self.short {
             return 0;
         }
         ((length - self.short) / self.gap + 1) * self.budget
     }
 
-    fn overrun_share(&self, length: u64) -> u64 {
+    pub fn overrun_share(&self, length: u64) -> u64 {
         let slack = self.deadline - self.short;
         if !self.critical || length < slack {
             return 0;
@@ -105,7 +105,7 @@ impl Stream {
     }
 }
 
-fn gcd(a: u64, b: u64) -> u64 {
+pub fn gcd(a: u64, b: u64) -> u64 {
     if b == 0 { a } else { gcd(b, a % b) }
 }
 

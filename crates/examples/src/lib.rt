@@ -15,7 +15,7 @@ mod tests {
     use demand::{admit, demand_at, load, sporadic_share};
     use join::Joined;
     use plan::{Answers, Tables, open_plan};
-    use script::{check, replay};
+    use script::{Unwritten, check, replay, replay_into};
     use std::alloc::Global;
     use std::process::Abort;
     use std::test::Fail;
@@ -223,6 +223,43 @@ mod tests {
     }
 
     // What memory is asked for is had: the tables of a plan, and the text of an answer.
+    // What is told of a buffer of sevens with so much room, and the buffer then.
+    fn in_room(
+        heap: Global,
+        text: &[u8],
+        room: usize,
+    ) -> Result<(Result<usize, Unwritten>, Vec<u8>), Fail> {
+        let mut buffer = Vec::from_elem(heap, 7u8, room)?;
+        let told = replay_into(heap, text, &mut buffer);
+        Ok((told, buffer))
+    }
+
+    // Only the front of a buffer is written.
+    #[test]
+    fn answers_in_a_buffer(rt: HostRuntime) -> Result<(), Fail> {
+        let text = "(S L (1 0) (2 2) 2)\n(go 0)\n(turn yes)\n".as_bytes();
+        let answers = "(accepted 2 3 (normal 1 1))\n(ran 0 idle)\n(total 0 0 0 0 0)\n".as_bytes();
+        let (told, buffer) = in_room(rt.alloc(), text, 400)?;
+        assert_eq!(rt; told, Ok(answers.len()));
+        assert!(rt; buffer.starts_with(answers));
+        assert!(rt; buffer.iter().skip(answers.len()).all(|byte| *byte == 7));
+        Ok(())
+    }
+
+    // A text that is too long is told before a buffer that is too short, and nothing is written.
+    #[test]
+    fn no_answers_in_a_buffer(rt: HostRuntime) -> Result<(), Fail> {
+        let text = "(S L (1 0) (2 2) 2)\n(go 0)\n(turn yes)\n".as_bytes();
+        let newlines = Vec::from_elem(rt.alloc(), b'\n', 65537)?;
+        let (short, kept) = in_room(rt.alloc(), text, 399)?;
+        assert_eq!(rt; short, Err(Unwritten::BufferTooShort));
+        assert!(rt; kept.iter().all(|byte| *byte == 7));
+        let (long, kept) = in_room(rt.alloc(), &newlines, 399)?;
+        assert_eq!(rt; long, Err(Unwritten::TextTooLong));
+        assert!(rt; kept.iter().all(|byte| *byte == 7));
+        Ok(())
+    }
+
     #[test]
     fn a_plan_is_opened_and_told(rt: HostRuntime) -> Result<(), Fail> {
         let tables = Tables::new(rt.alloc())?;

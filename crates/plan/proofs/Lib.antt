@@ -1,3 +1,4 @@
+pub mod Lawful
 pub mod Placing
 pub mod Planning
 pub mod Writing

@@ -5,7 +5,8 @@ use Rattle.stream.specs.declared.Fault.{Fault}
 use Rattle.stream.specs.declared.Refusal.{Refusal}
 use Rattle.bank.specs.Kinds.{Kind}
 use Rattle.engine.specs.Reports.{counts_of}
-use Rattle.turns.specs.Law.{NoneLate}
+use Rattle.turns.specs.Law.{Counted, NoneLate}
+use Rattle.turns.specs.Ledgers.{Ledger}
 use Rattle.turns.specs.Runs.{Call as Act, Heard, granted, heard, Run, still, step}
 use Rattle.turns.specs.Steps.{Picked, TurnSettled, settle_refusal}
 use Rattle.turns.specs.declared.Counts.{Counts}
@@ -16,7 +17,7 @@ use Rattle.text.specs.declared.answer.Answer.{Answer}
 use Rattle.text.specs.declared.answer.Answer.TheVariants.{Refused, Took, Ran, Calm as CalmAt, Total}
 use Rattle.text.specs.declared.call.Call.{Call}
 use Rattle.text.specs.declared.call.Call.TheVariants.{Release, Turn, Calm}
-use Rattle.script.specs.Accounts.{heard_answer, heard_line, Logged, last, line, Accounted}
+use Rattle.script.specs.Accounts.{heard_answer, heard_line, Logged, last, line, Booked, Accounted}
 use Rattle.script.specs.Performing.{telling, told, turn_given, Performed}
 use Rattle.script.specs.Playing.{Played, finished, broken, called}
 
@@ -33,6 +34,17 @@ heard_told : (tell : Unit {0} → Answer) (at : ℕ) (g : Result (Unit {0}) Refu
 heard_told tell at (Ok x) h = h x
 heard_told tell at (Err e) h = refl
 
+-- the counts that a worker reports, where it is counted by a ledger
+booked : {s : State} {l : Ledger} → Counted s l → Booked l (counts_of s)
+booked counted = record {
+  accepted = counted.accepted;
+  finished = counted.finishes;
+  cut = counted.cuts;
+  dropped = counted.drops;
+  waiting = counted.waiting_jobs;
+  none_lost = counted.none_lost;
+}
+
 module _ {S : Type 0} (k : Kind S) where
   -- a slip that is void cannot be settled, and one that is not can
   turn_run : (b c d : S) (s mid t u : State) (done : Bool) (at : ℕ) (slip : Option Refusal) (settled : Result Settled Refusal) (log : List (Act × Heard)) → Picked s slip mid → TurnSettled k b mid slip done settled c t → Run k c t log d u → Run k b s (heard_line (Turn done) (told at (telling Ran (turn_given slip settled))) ++ log) d u
@@ -45,7 +57,7 @@ module _ {S : Type 0} (k : Kind S) where
   turn_run b c d s mid t u done at None (Ok (HadBy i how)) log picked was run =
       step {c = b} {t = mid} (None, picked, refl, refl) (step {c = c} {t = t} (Ok (HadBy i how), was, refl) run)
 
-  line_run : (b c d : S) (s t u : State) (call : Call) (at : ℕ) (answer : Answer) (log : List (Act × Heard)) → Performed k b s call at answer c t → Run k c t log d u → Run k b s (heard_line call answer ++ log) d u
+  pub line_run : (b c d : S) (s t u : State) (call : Call) (at : ℕ) (answer : Answer) (log : List (Act × Heard)) → Performed k b s call at answer c t → Run k c t log d u → Run k b s (heard_line call answer ++ log) d u
   line_run b c d s t u (Release i) at answer log (r, (g, was, gave), e) run =
       step {c = c} {t = t} (g, was, ap heard_answer (e ∙ ap (told at) gave) ∙ heard_told (λ (x : Unit {0}). Took i) at g (λ x. refl)) run
   line_run b c d s t u (Turn done) at answer log (r, (g, (slip, mid, settled, picked, was, given), gave), e) run =
@@ -66,4 +78,5 @@ module _ {S : Type 0} (k : Kind S) where
   pub accounted : {text : List ℕ} {at : ℕ} {b : S} {s : State} {answers : List Answer} → NoneLate k b s → Played k text at b s answers → Accounted k b s text answers
   accounted promise played =
       let (log, final, d, u, logged, run, ends) = script_run played in
-      record { log = log; final = final; bank = d; worker = u; logged = logged; run = run; told = ends; lawful = promise log d u run }
+      let lawful = promise log d u run in
+      record { log = log; final = final; bank = d; worker = u; logged = logged; run = run; booked = λ counts e. simp (ends counts e) (booked lawful.counted); lawful = lawful }

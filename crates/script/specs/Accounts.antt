@@ -1,11 +1,10 @@
 -- The account of a script: its lines and their answers, heard as the calls of a run, and the ledger of that run.
 
-use Rattle.std.specs.Prelude.{◌≡◌, ℕ, List, [], ◌∷◌, ◌++◌, Some, None, Option}
+use Rattle.std.specs.Prelude.{◌≡◌, ℕ, ◌+◌, List, length, [], ◌∷◌, ◌++◌, Some, None, Option}
 use Rattle.stream.specs.declared.Refusal.{Refusal}
 use Rattle.bank.specs.Kinds.{Kind}
-use Rattle.engine.specs.Reports.{counts_of}
 use Rattle.turns.specs.Law.{Kept}
-use Rattle.turns.specs.Ledgers.{empty, kept}
+use Rattle.turns.specs.Ledgers.{Ledger, empty, sort, is_waiting, is_finished, is_cut, is_dropped, kept}
 use Rattle.turns.specs.Runs.{Call as Act, release, pick, settle, calm, Heard, refused, granted, named, heard_slip, Run}
 use Rattle.turns.specs.declared.Counts.{Counts}
 use Rattle.turns.specs.declared.Settled.TheVariants.{Idle as NoJob, Ran as HadBy}
@@ -46,6 +45,15 @@ pub data Logged : List ℕ → List Answer → List (Act × Heard) → Answer �
   last : {text : List ℕ} {answer : Answer} → Logged text (answer ∷ []) [] answer
   line : {text rest : List ℕ} {answer final : Answer} {answers : List Answer} {log : List (Act × Heard)} (call : Call) → text ≡ call_bytes call ++ rest → Logged rest answers log final → Logged text (answer ∷ answers) (heard_line call answer ++ log) final
 
+-- Counts that are a ledger's: each accepted job is in one of them.
+pub record Booked (l : Ledger) (n : Counts) : Type 0 where
+  pub accepted : n.accepted ≡ length l.entries
+  pub finished : n.finished ≡ sort is_finished l.entries
+  pub cut : n.cut ≡ sort is_cut l.entries
+  pub dropped : n.dropped ≡ sort is_dropped l.entries
+  pub waiting : n.waiting ≡ sort is_waiting l.entries
+  pub none_lost : n.accepted ≡ n.finished + n.cut + n.dropped + n.waiting
+
 -- What is heard of a script is a run of the worker. By the ledger of it no job is late and none is lost, and the counts at the end are the ledger's.
 pub record Accounted {S : Type 0} (k : Kind S) (b : S) (s : State) (text : List ℕ) (answers : List Answer) : Type 0 where
   pub log : List (Act × Heard)
@@ -54,5 +62,5 @@ pub record Accounted {S : Type 0} (k : Kind S) (b : S) (s : State) (text : List 
   pub worker : State
   pub logged : Logged text answers log final
   pub run : Run k b s log bank worker
-  pub told : (counts : Counts) → final ≡ Total counts → counts ≡ counts_of worker
+  pub booked : (counts : Counts) → final ≡ Total counts → Booked (kept (k.records b) empty log) counts
   pub lawful : Kept k (k.records b) bank worker (kept (k.records b) empty log)

@@ -3,3 +3,4 @@ pub mod Playing
 pub mod Accounts
 pub mod Replays
 pub mod Checks
+pub mod Buffers

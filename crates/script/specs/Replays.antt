@@ -1,6 +1,6 @@
 -- What replay writes for a text.
 
-use Rattle.std.specs.Prelude.{◌≡◌, ℕ, List, [], ◌∷◌}
+use Rattle.std.specs.Prelude.{◌≡◌, ℕ, ◌<◌, ◌≤◌, List, [], ◌∷◌, length}
 use Rattle.stream.specs.declared.Fault.{Fault}
 use Rattle.stream.specs.declared.Verdict.{Verdict}
 use Rattle.text.specs.declared.answer.Answer.{Answer}
@@ -19,3 +19,7 @@ pub data Answered (text : List ℕ) : List Answer → Type 0 where
 
 abbrev pub Replayed : List ℕ → List ℕ → Type 0
 Replayed text written = (answers : List Answer) × Answered text answers × (written ≡ lines_of answers)
+
+-- Nothing is written for a text above 65,536 bytes.
+abbrev pub ReplayedUpto : List ℕ → List ℕ → Type 0
+ReplayedUpto text written = (length text ≤ 65536 → Replayed text written) × (65536 < length text → written ≡ [])

@@ -2,31 +2,42 @@
 
 #![tactic(auto)]
 
-ghost use Rattle.std.specs.Prelude.{◌≡◌, IfOk, string_bytes};
+ghost use Rattle.std.specs.Prelude.{◌≡◌, IfOk, length, nat_lt, string_bytes};
 ghost use Rattle.script.specs.Checks.{Checked};
-ghost use Rattle.script.specs.Replays.{Replayed};
+ghost use Rattle.script.specs.Replays.{ReplayedUpto};
 
 mod answers;
+mod buffer;
 mod script;
 mod verdicts;
 
 use answers::answer_to;
+pub use buffer::{Unwritten, replay_into};
 use plan::{Answers, Tables};
 use std::alloc::{AllocError, Global};
 use verdicts::{check_plan, number_of};
 
-// What check answers for want of memory: a number below every refusal's, and so check's answer is signed, since the C interface has one number for all.
+// What C is told for want of memory: a number below every refusal, and so check answers a signed one.
 const NO_MEMORY: i64 = -1;
 
-// The longest text, in bytes, that the program reads.
+// The longest text that is replayed, in bytes.
 pub const LONGEST_TEXT: u64 = 65536;
+
+// Whether a text is longer than any that is replayed.
+fn too_long(text: &[u8]) -> bool
+    ensures { result ≡ nat_lt 65536 (length text.now) }
+{
+    text.len() as u64 > LONGEST_TEXT
+}
 
 // Reads a plan, judges it and runs the script after it, one answer to a line.
 pub fn replay(heap: Global, text: &[u8]) -> Result<String, AllocError>
-    ensures { IfOk result (λ s. Replayed text.now (string_bytes s)) }
+    ensures { IfOk result (λ s. ReplayedUpto text.now (string_bytes s)) }
 {
     let mut answers = Answers::new(heap);
-    answer_to(heap, text, &mut answers)?;
+    if !too_long(text) {
+        answer_to(heap, text, &mut answers)?;
+    }
     Ok(answers.lines)
 }
 

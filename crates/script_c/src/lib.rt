@@ -2,6 +2,7 @@
 
 #![tactic(auto)]
 
+ghost use Rattle.script.specs.Buffers.{FilledNumber};
 ghost use Rattle.script.specs.Checks.{Checked};
 
 use std::alloc::Global;
@@ -12,4 +13,12 @@ pub extern "C" fn check(heap: Global, text: &[u8]) -> i64
     ensures { Checked text.now result }
 {
     script::check(heap, text)
+}
+
+// Writes what a plan and its script are answered to the front of a buffer: how many bytes, or a number below 0 that says why nothing was written.
+#[unsafe(no_mangle)]
+pub extern "C" fn replay(heap: Global, text: &[u8], buffer: &mut [u8]) -> i64
+    ensures { FilledNumber text.now buffer.old result buffer.new }
+{
+    script::replay_into(heap, text, buffer).map_or_else(i64::from, |written| written as i64)
 }

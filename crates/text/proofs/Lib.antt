@@ -6,4 +6,5 @@ pub mod Unique
 pub mod Lining
 pub mod Calling
 pub mod Answering
+pub mod Ordinary
 pub mod Sizes

@@ -1,6 +1,6 @@
 -- Digits at the front of a text, the number that they write, and where a text leaves the form of a number.
 
-use Rattle.std.proofs.Common.{◌≡◌, ℕ, zero, suc, ◌+◌, ◌^◌, ◌<◌, ◌≤◌, ◌⊎◌, ◌≢◌, min, true, false, List, [], ◌∷◌, ◌++◌, length, get_or, Option, Ok, Err, Result, take, drop, decimal, sym, refl, ap, ◌∙◌, subst, inl, inr, ⊎_elim, append_assoc, add-zero, add-one, arith, lit<, length-append}
+use Rattle.std.proofs.Common.{◌≡◌, ℕ, zero, suc, ◌+◌, ◌^◌, ◌<◌, ◌≤◌, ◌⊎◌, ◌≢◌, min, true, false, List, [], ◌∷◌, ◌++◌, length, get_or, slice_get, Option, Some, Ok, Err, Result, take, drop, decimal, sym, refl, ap, ◌∙◌, subst, inl, inr, ⊎_elim, append_assoc, add-zero, add-one, arith, lit<, length-append}
 use Rattle.std.proofs.lemmas.Fmt.{digits_decimal, decimal-digits_value, decimal_digit, decimal_nonempty, first_decimal, length-decimal-le, decimal_injective, IsAscii-from_digits}
 use Rattle.std.proofs.lemmas.Option.{unwrap_or-slice_get}
 use Rattle.std.specs.Option.{unwrap_or}
@@ -42,6 +42,9 @@ digits_front xs (suc i) h =
     let digit : IsInRange 48 57 (get_or xs i 0) = is_digit _ (prefix_len_passes is_ascii_digit xs i 0 lt) in
     subst (λ (n : ℕ). AllDigits 10 (take n xs)) (add-one i) (digits_more 10 xs i within (digits_front xs i (omega arith)) (omega (arith, value, digit)))
 
+first_is : (text : List ℕ) (b : ℕ) → slice_get text 0 ≡ Some b → get_or text 0 0 ≡ b
+first_is text b e = sym (unwrap_or-slice_get text 0 0) ∙ ap (λ (o : Option ℕ). unwrap_or o 0) e
+
 -- as many digits as there are, up to the most that a number has
 module _ (text : List ℕ) (most len : ℕ) (is : len ≡ min (digits_len text) most) (kind : ((most ≡ 1) × (get_or text 0 0 ≡ 48)) ⊎ ((most ≡ 13) × (get_or text 0 0 ≢ 48))) where
   full : IsInRange 48 57 (get_or text len 0) → (len ≡ 13) ⊎ ((len ≡ 1) × (get_or text 0 0 ≡ 48))
@@ -64,11 +67,12 @@ module _ (text : List ℕ) (most len : ℕ) (is : len ≡ min (digits_len text) 
     full = full;
   }
 
-pub numeral_alone : (text : List ℕ) → get_or text 0 0 ≡ 48 → Numeral text (min (digits_len text) 1)
-numeral_alone text first = numeral text 1 _ refl (inl (refl, first))
+pub numeral_alone : (text : List ℕ) → slice_get text 0 ≡ Some 48 → Numeral text (min (digits_len text) 1)
+numeral_alone text first = numeral text 1 _ refl (inl (refl, first_is text 48 first))
 
-pub numeral_long : (text : List ℕ) → get_or text 0 0 ≢ 48 → Numeral text (min (digits_len text) 13)
-numeral_long text first = numeral text 13 _ refl (inr (refl, first))
+pub numeral_long : (text : List ℕ) → slice_get text 0 ≢ Some 48 → Numeral text (min (digits_len text) 13)
+numeral_long [] none = numeral [] 13 _ refl (inr (refl, λ e. omega arith))
+numeral_long (c ∷ text) other = numeral (c ∷ text) 13 _ refl (inr (refl, λ e. other (ap (λ (b : ℕ). Some b) e)))
 
 -- at most 13 digits are text, and are read as a number where there is one
 pub parsed : {E : Type 0} (ds : List ℕ) (r : Result ℕ E) → ParsesUnsigned 64 10 ds r → AllDigits 10 ds → length ds ≤ 13 → OkIff r (0 < length ds) (digits_value 10 ds)

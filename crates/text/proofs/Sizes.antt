@@ -14,7 +14,7 @@ use Rattle.stream.specs.declared.Verdict.{Verdict}
 use Rattle.text.specs.declared.answer.Answer.{Answer}
 use Rattle.text.specs.declared.answer.Answer.TheVariants.{Accepted, Refused, Took, Ran, Calm, Total}
 use Rattle.text.specs.Shown.{answer_line}
-use Rattle.text.specs.Sizes.{OrdinaryPoint, OrdinarySettled, OrdinaryCounts, Ordinary}
+use Rattle.text.proofs.Ordinary.{OrdinaryPoint, OrdinarySettled, OrdinaryCounts, Ordinary}
 use Rattle.text.specs.Words.{Small}
 use Rattle.turns.specs.Shown.{counts_line, end_word, settled_line}
 use Rattle.turns.specs.declared.Counts.{Counts}

@@ -5,4 +5,3 @@ pub mod Lines
 pub mod Calls
 pub mod Reading
 pub mod Reader
-pub mod Sizes

@@ -2,17 +2,18 @@
 
 ghost use Rattle.std.proofs.Common.{rules};
 ghost use Rattle.text.specs.Calls.{report_bytes, call_bytes, ValidCall};
-ghost use Rattle.text.specs.Reading.{ahead, Reads};
+ghost use Rattle.text.specs.Reading.{Reads};
 
 use crate::call::Call;
-use crate::cursor::{Cursor, Misfit, head};
+use crate::cursor::{Cursor, head};
 use crate::from_line::FromLine;
+use stream::Fault;
 
-impl<'a> Cursor<'a> {
+impl<'r, 'a> Cursor<'r, 'a> {
     // Whether a job is done, to the end of the line. Told by its first character, as calls are.
     #[tactic(auto, using(crate::proofs::Calling::report_ends))]
-    fn report(&mut self) -> Result<bool, Misfit>
-        ensures { Reads report_bytes (λ _. Unit {0}) (ahead self.old) result (ahead self.new) }
+    fn report(&mut self) -> Result<bool, Fault>
+        ensures { Reads report_bytes (λ _. Unit {0}) self.old result self.new }
     {
         match head(self.rest) {
             Some('y') => {
@@ -23,13 +24,13 @@ impl<'a> Cursor<'a> {
                 self.word(b"no)\n")?;
                 Ok(false)
             }
-            _ => Err(self.misfit()),
+            _ => Err(self.fault()),
         }
     }
 
     #[tactic(auto, using(crate::proofs::Calling::call_ends))]
-    fn call(&mut self) -> Result<Call, Misfit>
-        ensures { Reads call_bytes ValidCall (ahead self.old) result (ahead self.new) }
+    fn call(&mut self) -> Result<Call, Fault>
+        ensures { Reads call_bytes ValidCall self.old result self.new }
     {
         self.word(b"(")?;
         match head(self.rest) {
@@ -45,7 +46,7 @@ impl<'a> Cursor<'a> {
                 self.word(b"calm)\n")?;
                 Ok(Call::Calm)
             }
-            _ => Err(self.misfit()),
+            _ => Err(self.fault()),
         }
     }
 }
@@ -57,7 +58,7 @@ impl FromLine for Call {
 
     ghost some = { λ call. Prim.search rules };
 
-    fn from_line(cursor: &mut Cursor) -> Result<Call, Misfit> {
+    fn from_line(cursor: &mut Cursor) -> Result<Call, Fault> {
         cursor.call()
     }
 }

@@ -3,18 +3,18 @@
 ghost use Rattle.std.specs.Prelude.{◌<◌, slice_index_or};
 ghost use Rattle.std.proofs.Common.{rules};
 ghost use Rattle.text.specs.Lines.{class_letter, row_bytes, render, SmallRow, Valid};
-ghost use Rattle.text.specs.Reading.{ahead, Reads};
+ghost use Rattle.text.specs.Reading.{Reads};
 
-use crate::cursor::{Cursor, Misfit, head};
+use crate::cursor::{Cursor, head};
 use crate::from_line::FromLine;
 use crate::line::Line;
-use stream::{Class, Row};
+use stream::{Class, Fault, Row};
 
-impl<'a> Cursor<'a> {
+impl<'r, 'a> Cursor<'r, 'a> {
     // Told by its first character, as lines are.
     #[tactic(auto, using(crate::proofs::Grammar::class_ends))]
-    fn class(&mut self) -> Result<Class, Misfit>
-        ensures { Reads class_letter (λ _. Unit {0}) (ahead self.old) result (ahead self.new) }
+    fn class(&mut self) -> Result<Class, Fault>
+        ensures { Reads class_letter (λ _. Unit {0}) self.old result self.new }
     {
         match head(self.rest) {
             Some('H') => {
@@ -25,14 +25,14 @@ impl<'a> Cursor<'a> {
                 self.word(b"L")?;
                 Ok(Class::Background)
             }
-            _ => Err(self.misfit()),
+            _ => Err(self.fault()),
         }
     }
 
     // A row, from its class letter to the bytes that close it, the first of which is no digit.
-    fn row(&mut self, close: &[u8]) -> Result<Row, Misfit>
+    fn row(&mut self, close: &[u8]) -> Result<Row, Fault>
         requires { slice_index_or close.now 0 48 < 48 }
-        ensures { Reads (row_bytes close.now) SmallRow (ahead self.old) result (ahead self.new) }
+        ensures { Reads (row_bytes close.now) SmallRow self.old result self.new }
     {
         let class = self.class()?;
         self.word(b" (")?;
@@ -52,8 +52,8 @@ impl<'a> Cursor<'a> {
     }
 
     #[tactic(auto, using(crate::proofs::Lining::line_ends))]
-    fn line(&mut self) -> Result<Line, Misfit>
-        ensures { Reads render Valid (ahead self.old) result (ahead self.new) }
+    fn line(&mut self) -> Result<Line, Fault>
+        ensures { Reads render Valid self.old result self.new }
     {
         self.word(b"(")?;
         match head(self.rest) {
@@ -71,7 +71,7 @@ impl<'a> Cursor<'a> {
                 self.word(b"go ")?;
                 Ok(Line::Go(self.number(b")\n")?))
             }
-            _ => Err(self.misfit()),
+            _ => Err(self.fault()),
         }
     }
 }
@@ -83,7 +83,7 @@ impl FromLine for Line {
 
     ghost some = { λ line. Prim.search rules };
 
-    fn from_line(cursor: &mut Cursor) -> Result<Line, Misfit> {
+    fn from_line(cursor: &mut Cursor) -> Result<Line, Fault> {
         cursor.line()
     }
 }

@@ -1,41 +1,30 @@
 // Reading a line, or refusing it.
 
-ghost use Rattle.std.specs.Prelude.{◌≡◌, ◌+◌, ◌-◌, ◌<◌, ◌≤◌, ◌≢◌, [], length, MatchResult};
+ghost use Rattle.std.specs.Prelude.{◌≡◌, ◌+◌, ◌-◌, ◌<◌, ◌≤◌, length, MatchResult};
 ghost use Rattle.text.specs.Places.{out_of_shape};
 ghost use Rattle.text.specs.Reader.{bytes_left, line_number, ReadBy, RefusedBy, AllRead};
 ghost use Rattle.text.specs.Words.{Form};
 
-use crate::cursor::{Cursor, Misfit};
+use crate::cursor::Cursor;
 use crate::from_line::FromLine;
 use crate::reader::Reader;
 use stream::{Fault, Layer, Refusal};
 
 impl<'a> Reader<'a> {
     // One line of a form with its newline. Where the text is out of shape, the reader stays.
+    #[tactic(auto, using(crate::proofs::Answering::shortens))]
     pub fn next<F: FromLine>(&mut self) -> Result<F, Fault>
         ensures answer { MatchResult result (λ value. ReadBy F.bytes F.valid self.old value self.new) (λ fault. RefusedBy (Form F.bytes F.valid) self.old fault self.new) }
         ensures complete { AllRead F.bytes F.valid (bytes_left self.old) result }
     {
-        let mut cursor = Cursor { rest: self.rest };
-        // A match: with `map_err` and `?` it was not proved that the fault stands where the misfit says.
-        match F::from_line(&mut cursor) {
-            Ok(value) => {
-                self.pass(cursor.rest);
-                Ok(value)
-            }
-            Err(misfit) => Err(self.misfit(misfit)),
-        }
-    }
-
-    // Refuses what is left of the text, if anything is.
-    pub fn expect_end(&self) -> Result<(), Fault>
-        ensures { MatchResult result (λ _. bytes_left self.now ≡ []) (λ fault. (fault ≡ out_of_shape (line_number self.now) 1) × (bytes_left self.now ≢ [])) }
-    {
-        if self.at_end() {
-            Ok(())
-        } else {
-            Err(self.out_of_shape(1))
-        }
+        let mut cursor = Cursor {
+            reader: self,
+            rest: self.rest,
+        };
+        let value = F::from_line(&mut cursor)?;
+        let rest = cursor.rest;
+        self.pass(rest);
+        Ok(value)
     }
 
     // Where the next line is out of shape, at a byte of it from 1.
@@ -50,12 +39,12 @@ impl<'a> Reader<'a> {
         }
     }
 
-    // Out of shape where the misfit says.
-    fn misfit(&self, misfit: Misfit) -> Fault
-        requires { misfit.left ≤ length (bytes_left self.now) }
-        ensures { result ≡ out_of_shape (line_number self.now) (length (bytes_left self.now) + 1 - misfit.left) }
+    // Out of shape in the next line, at the first byte of the rest.
+    pub(crate) fn fault_at(&self, rest: &[u8]) -> Fault
+        requires { length rest.now ≤ length (bytes_left self.now) }
+        ensures { result ≡ out_of_shape (line_number self.now) (length (bytes_left self.now) + 1 - length rest.now) }
     {
-        self.out_of_shape((self.rest.len() + 1 - misfit.left) as u64)
+        self.out_of_shape((self.rest.len() + 1 - rest.len()) as u64)
     }
 
     // Goes on behind a line that was read.
