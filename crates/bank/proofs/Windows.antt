@@ -7,7 +7,7 @@ use Rattle.bank.specs.Kinds.{Kind}
 use Rattle.bank.specs.Laws.{Laws, Same}
 use Rattle.bank.specs.Questions.{told, asked, spanned}
 use Rattle.bank.specs.declared.Question.TheVariants.{Outside, Before, At}
-use Rattle.bank.specs.Runs.{Act, ticks, accepts, Run, done, tick, accept, releases, moments, AtMost}
+use Rattle.bank.specs.Runs.{Act, ticks, accepts, Run, done, tick, accept, releases, moments, AtMost, AtMostToCome}
 
 pub same_then : {S : Type 0} (k : Kind S) {b c d : S} → Same k b c → Same k c d → Same k b d
 same_then k p q = record {
@@ -85,11 +85,26 @@ asked_spanned z n h none some =
     ap asked (some p) ∙ ap (λ (t : Bool). cond t (At (n - 1)) Outside) (le-leb (n - 1) 1000000 (omega arith)) ∙ sym (spanned_some n p h))
     (cases_eq n 0)
 
--- what a bank tells of so many moments bounds the releases accepted within them
-pub told_bounds : {S : Type 0} (k : Kind S) (l : Laws k) (bank : S) (i n most : ℕ) (o : Option Record) → k.records bank i ≡ o → n ≤ 1000001 → told o (k.ceiling bank i) (spanned n) ≡ Some most → AtMost k bank i n most
-told_bounds k l bank i n most None e h t moment b c d before window g run runs short = let z : ◌≡◌ {A = ℕ} 0 1 = cc in absurd (let w : ⊥ = omega arith in w)
-told_bounds k l bank i n most (Some r) e h t moment b c d before window g run runs short =
-    let some = some_moment window in
-    let tells : Some (k.ceiling bank i (n - 1)) ≡ Some most = sym (ap (told (Some r) (k.ceiling bank i)) (spanned_some n (omega arith) h)) ∙ t in
-    let is : k.ceiling bank i (n - 1) ≡ most = cc in
-    omega (arith, releases_within_ceiling k l bank i r (n - 1) e moment b c d before window g run runs (omega arith))
+-- what a bank tells of so many moments is told at the last of them, of a stream that exists
+module _ (f : ℕ → ℕ) (n most : ℕ) (h : n ≤ 1000001) where
+  told_at : (r : Record) → 0 < n → told (Some r) f (spanned n) ≡ Some most → f (n - 1) ≡ most
+  told_at r some t =
+      let tells : Some (f (n - 1)) ≡ Some most = sym (ap (told (Some r) f) (spanned_some n some h)) ∙ t in
+      cc
+
+  told_absent : {X : Type 0} → told None f (spanned n) ≡ Some most → X
+  told_absent t = let z : ◌≡◌ {A = ℕ} 0 1 = cc in absurd (let w : ⊥ = omega arith in w)
+
+-- it bounds the releases accepted within them
+module _ {S : Type 0} (k : Kind S) (l : Laws k) (b : S) (i n most : ℕ) (h : n ≤ 1000001) where
+  pub told_bounds : (o : Option Record) → k.records b i ≡ o → told o (k.ceiling b i) (spanned n) ≡ Some most → AtMost k b i n most
+  told_bounds None e t = told_absent (k.ceiling b i) n most h t
+  told_bounds (Some r) e t = λ moment begun c d before window g run runs short.
+      let some = some_moment window in
+      omega (arith, told_at (k.ceiling b i) n most h r (omega arith) t, releases_within_ceiling k l b i r (n - 1) e moment begun c d before window g run runs (omega arith))
+
+  pub told_opens : (o : Option Record) → k.records b i ≡ o → told o (k.opening b i) (spanned n) ≡ Some most → AtMostToCome k b i n most
+  told_opens None e t = told_absent (k.opening b i) n most h t
+  told_opens (Some r) e t = λ c window begun runs short.
+      let some = some_moment window in
+      omega (arith, told_at (k.opening b i) n most h r (omega arith) t, releases_opened k l i r (n - 1) begun e runs (omega arith))

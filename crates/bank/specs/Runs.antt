@@ -29,3 +29,8 @@ moments (accepts j ∷ acts) = moments acts
 abbrev pub AtMost : {S : Type 0} → Kind S → S → ℕ → ℕ → ℕ → Type 0
 AtMost {S} k bank i span most =
     (moment : ℕ) (b c d : S) (before window : List Act) → k.begins bank moment b → Run k b before c → Run k c window d → moments window ≤ span → releases i window ≤ most
+
+-- From this moment on, in any so many moments of a bank that has begun, at most `most` releases of stream i are accepted.
+abbrev pub AtMostToCome : {S : Type 0} → Kind S → S → ℕ → ℕ → ℕ → Type 0
+AtMostToCome {S} k b i span most =
+    (c : S) (window : List Act) → k.begun b → Run k b window c → moments window ≤ span → releases i window ≤ most

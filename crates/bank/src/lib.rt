@@ -2,14 +2,15 @@
 
 #![tactic(auto)]
 
-ghost use Rattle.std.specs.Prelude.{◌≡◌, ℕ, true, false, Some, None};
+ghost use Rattle.std.specs.Prelude.{◌≡◌, ℕ, ◌≤◌, true, false, MatchOption, Some, None};
 ghost use Rattle.stream.specs.declared.limits.Record.{Record as Rec};
 ghost use Rattle.bank.specs.Accepting.{Accepted};
 ghost use Rattle.bank.specs.Kinds.{Kind};
 ghost use Rattle.bank.specs.Laws.{Laws};
 ghost use Rattle.bank.specs.Questions.{asked, told, counted, spanned};
+ghost use Rattle.bank.specs.declared.Question.TheVariants.{Outside};
 ghost use Rattle.bank.specs.Rules.{Rules, Whole};
-ghost use Rattle.bank.specs.Runs.{AtMost};
+ghost use Rattle.bank.specs.Runs.{AtMost, AtMostToCome};
 
 use stream::{Record, Refusal};
 
@@ -83,15 +84,30 @@ pub trait Bank {
     ghost lawful: { Laws kind };
 }
 
+// The m of a question about so many consecutive moments: the last of them, counted from 0.
+fn last_of(moments: u64) -> Option<i64>
+    ensures { MatchOption result (spanned moments ≡ Outside) (λ m. (moments ≤ 1000001) × (asked m ≡ spanned moments)) }
+{
+    if moments > MOMENTS {
+        return None;
+    }
+    Some(moments as i64 - 1)
+}
+
 // The most releases of a stream that can be accepted in so many consecutive moments, whatever the acts from begin on.
 pub fn most_accepted<B: Bank>(bank: &B, stream: u64, moments: u64) -> Option<u64>
     ensures value { result ≡ told (B.kind.records bank.now stream) (B.kind.ceiling bank.now stream) (spanned moments) }
     ensures bound { (most : ℕ) → result ≡ Some most → AtMost B.kind bank.now stream moments most }
 {
-    if moments > MOMENTS {
-        return None;
-    }
-    bank.ceiling(stream, moments as i64 - 1)
+    bank.ceiling(stream, last_of(moments)?)
+}
+
+// The most releases of a stream that can still be accepted in so many moments from this one on, whatever the acts.
+pub fn most_to_come<B: Bank>(bank: &B, stream: u64, moments: u64) -> Option<u64>
+    ensures value { result ≡ told (B.kind.records bank.now stream) (B.kind.opening bank.now stream) (spanned moments) }
+    ensures bound { (most : ℕ) → result ≡ Some most → AtMostToCome B.kind bank.now stream moments most }
+{
+    bank.opening(stream, last_of(moments)?)
 }
 
 // Whether a stream exists. If so, the rules on ceilings and openings hold of it, said over whole numbers; the rules on the bank as a whole hold in any case. What questions answer and what is refused, the trait says.

@@ -1,21 +1,27 @@
 -- No length above the horizon is worse: what is asked within a length and a horizon more is at most what is asked within each of the two.
 
-use Rattle.std.proofs.Common.{◌≡◌, ℕ, zero, suc, ◌+◌, ◌-◌, ◌*◌, ◌/◌, ◌%◌, ◌<◌, ◌≤◌, min, Some, None, Option, sym, refl, ap, ◌∙◌, subst, ⊎_elim, mul-le-mul_right, suc-mul, add-mul, one-mul, zero-add, zero-mul, arith}
+use Rattle.std.proofs.Common.{◌≡◌, ℕ, zero, suc, ◌+◌, ◌-◌, ◌*◌, ◌/◌, ◌%◌, ◌<◌, ◌≤◌, Bool, true, false, not, ◌&&◌, ◌||◌, int_lt, nat_lt, pos, ◌-ℤ◌, min, Some, None, Option, sym, refl, ap, ◌∙◌, subst, ⊎_elim, mul-le-mul_right, suc-mul, add-mul, one-mul, zero-add, zero-mul, arith}
 use native.Mathlib.Nat.{mod-add-div'}
-use Rattle.std.proofs.lemmas.Bool.{cases_lt}
+use Rattle.std.proofs.lemmas.Bool.{false≢true, cases_lt, le-ltb, lt-ltb}
+use Rattle.std.proofs.lemmas.Int.{ints}
 use Rattle.stream.specs.Limits.{Within}
 use Rattle.stream.specs.declared.Class.{Class}
 use Rattle.stream.specs.declared.Class.TheVariants.{Critical, Background}
 use Rattle.stream.specs.declared.Phase.{Phase}
 use Rattle.stream.specs.declared.Phase.TheVariants.{Normal, Overrun}
+use Rattle.stream.specs.declared.Point.{Point}
 use Rattle.stream.specs.declared.Row.{Row}
 use Rattle.stream.specs.declared.limits.Record.{Record}
+use Rattle.stream.specs.declared.Verdict.{Verdict}
 use Rattle.bank.specs.Ceilings.{back, Ceiling}
 use Rattle.bank.specs.Kinds.{Kind}
 use Rattle.bank.proofs.Backs.{back_before, back_after}
+use Rattle.least.specs.Orders.{point_below}
+use Rattle.least.specs.Rankings.{ranks_points}
 use Rattle.demand.specs.Demands.{share, asks, demand, Fits, Feasible}
 use Rattle.demand.specs.Horizons.{Common}
 use Rattle.demand.specs.Shares.{normal_share, greatest, slack, carrying, if_critical, overrun_share}
+use Rattle.demand.specs.Verdicts.{point_at, Nearest, Accepts, AcceptsAll}
 use Rattle.demand.proofs.Plateaus.{greatest_bounded, greatest_reaches}
 use Rattle.demand.proofs.Totals.{total_adds}
 use Rattle.demand.proofs.Widths.{short_fits}
@@ -144,7 +150,43 @@ module _ {S : Type 0} (k : Kind S) (b : S) (ceilings : (i : ℕ) (r : Record) �
       subst (λ (x : ℕ). Fits k b x) there (fits_add (t + j * h) (fits_turns fits j t l) (fits h (omega arith)))
 
   -- where every length up to a common multiple of the gaps fits, every length fits
-  pub fits_beyond : ((t : ℕ) → t ≤ h → Fits k b t) → Feasible k b
+  fits_beyond : ((t : ℕ) → t ≤ h → Fits k b t) → Feasible k b
   fits_beyond fits t =
       let some = common.some in
       subst (λ (x : ℕ). Fits k b x) (mod-add-div' t h) (fits_turns fits (t / h) (t % h) (omega arith))
+
+  -- a length above the horizon has no less margin than the horizon
+  later_margin : (p : Phase) (t : ℕ) → h < t → Fits k b (t - h) → int_lt (pos t -ℤ pos (demand k b p t)) (pos h -ℤ pos (demand k b p h)) ≡ false
+  later_margin p t later fits =
+      let at : t - h + h ≡ t = omega arith in
+      let adds : demand k b p t ≤ demand k b p (t - h) + demand k b p h = subst (λ (x : ℕ). demand k b p x ≤ demand k b p (t - h) + demand k b p h) at (demand_adds p (t - h)) in
+      let within : demand k b p (t - h) ≤ t - h = elim p as (λ v. demand k b v (t - h) ≤ t - h) [ Normal ↦ fits.0 | Overrun ↦ fits.1 ] in
+      grind (arith, ints)
+
+  later_not_below : (p : Phase) (t : ℕ) → h < t → Fits k b (t - h) → point_below (point_at k b p t) (point_at k b p h) ≡ false
+  later_not_below p t later fits =
+      by_order _ (int_lt (pos h -ℤ pos (demand k b p h)) (pos t -ℤ pos (demand k b p t))) (nat_lt t h) (nat_lt h t) _
+      (later_margin p t later fits) (le-ltb t h (omega arith)) (lt-ltb h t later)
+    where
+      by_order : (below above shorter longer staged : Bool) → below ≡ false → shorter ≡ false → longer ≡ true → (below || (not above && (shorter || (not longer && staged)))) ≡ false
+      by_order true above shorter longer staged e f g = e
+      by_order false true shorter longer staged e f g = refl
+      by_order false false true longer staged e f g = f
+      by_order false false false true staged e f g = refl
+      by_order false false false false staged e f g = absurd (false≢true g)
+
+  -- so no length at all is nearer to failing than the nearest up to the horizon
+  nearest_of_all : (point : Point) → Nearest k b h point → Feasible k b → (p : Phase) (t : ℕ) → 1 ≤ t → point_below (point_at k b p t) point ≡ false
+  nearest_of_all point nearest feasible p t some =
+      ⊎_elim
+      (λ (later : h < t).
+      ranks_points.chain (point_at k b p t) (point_at k b p h) point (later_not_below p t later (feasible (t - h))) (nearest.least p h common.some (omega arith)))
+      (λ (within : t ≤ h). nearest.least p t some within)
+      (cases_lt h t)
+
+-- what was seen up to the horizon holds of every length
+pub accepts_all : {S : Type 0} (k : Kind S) (b : S) → ((i : ℕ) (r : Record) → k.records b i ≡ Some r → Ceiling r.row (k.count b i) (k.ceiling b i)) → (v : Verdict) → Accepts k b v → AcceptsAll k b v
+accepts_all k b ceilings v looked =
+    let common = looked.reach.horizon.common in
+    let feasible = fits_beyond k b ceilings v.horizon common looked.fits in
+    record { looked = looked; feasible = feasible; none_nearer = nearest_of_all k b ceilings v.horizon common v.point looked.nearest feasible }

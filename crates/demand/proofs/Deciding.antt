@@ -9,7 +9,7 @@ use Rattle.bank.specs.Kinds.{Kind}
 use Rattle.bank.specs.Laws.{Laws}
 use Rattle.demand.specs.Demands.{Feasible}
 use Rattle.demand.specs.Verdicts.{InReach, Accepts, Exceeds, Far, Refuses, Says, Decided}
-use Rattle.demand.proofs.Beyond.{fits_beyond}
+use Rattle.demand.proofs.Beyond.{accepts_all}
 use Rattle.demand.proofs.Uniqueness.{exceeded, not_far, one_accepted, one_exceeded}
 
 -- the four refusals that there are
@@ -96,5 +96,5 @@ module _ {S : Type 0} (k : Kind S) (b : S) where
   }
 
   pub scanned : Laws k → (answer : Result Verdict Refusal) → MatchResult answer (λ v. Accepts k b v) (λ e. Refuses k b e) → Decided k b answer
-  scanned laws (Ok v) looked = judged (Ok v) (record { looked = looked; feasible = fits_beyond k b (laws.ceilings b) v.horizon looked.reach.horizon.common looked.fits })
+  scanned laws (Ok v) looked = judged (Ok v) (accepts_all k b (laws.ceilings b) v looked)
   scanned laws (Err e) refuses = judged (Err e) refuses

@@ -37,10 +37,11 @@ pub record Accepts {S : Type 0} (k : Kind S) (b : S) (v : Verdict) : Type 0 wher
   pub lengths : v.lengths ≡ v.horizon + 1
   pub nearest : Nearest k b v.horizon v.point
 
--- accepted at every length: and neither demand exceeds any above the horizon
+-- accepted at every length: neither demand exceeds any above the horizon either, and none is nearer to failing than the nearest up to it
 pub record AcceptsAll {S : Type 0} (k : Kind S) (b : S) (v : Verdict) : Type 0 where
   pub looked : Accepts k b v
   pub feasible : Feasible k b
+  pub none_nearer : (p : Phase) (t : ℕ) → 1 ≤ t → point_below (point_at k b p t) v.point ≡ false
 
 -- the first length that a demand exceeds; normal is looked at first
 abbrev pub ExceedsFirst : {S : Type 0} → Kind S → S → Phase → ℕ → Type 0

@@ -314,6 +314,7 @@ module _ {S : Type 0} (k : Kind S) (laws : Laws k) (origin : S) where
     mode = live.tracks.mode;
     in_time = All-weaker (Known (k.records origin) s.moment s.jobs) (InTime (k.records origin)) (λ e h. in_time k laws origin few feasible b s l live e h) l.entries live.tracks.known;
     counted = tracked_counts (k.records origin) s l live.sane.room live.tracks;
+    turn_out = λ turn e. subst (TurnOk s) e live.sane.turn;
     dropping = λ c t call h st. only_switch_drops k b c s t call h st;
   }
 
@@ -340,6 +341,7 @@ module _ {S : Type 0} (k : Kind S) (laws : Laws k) (origin : S) where
     mode = refl;
     in_time = tt;
     counted = tracked_counts (k.records origin) (fresh moment (Err e)) empty refl (fresh_tracks moment (Err e));
+    turn_out = λ turn e. absurd (clash (ap is_some e));
     dropping = λ c t call h st. only_switch_drops k b c (fresh moment (Err e)) t call h st;
   }
 

@@ -9,8 +9,9 @@ use Rattle.bank.specs.Kinds.{Kind}
 use Rattle.turns.specs.Jobs.{waiting}
 use Rattle.turns.specs.Ledgers.{finished, dropped, Entry, Ledger, empty, sort, is_waiting, is_finished, is_cut, is_dropped, kept}
 use Rattle.turns.specs.Runs.{Call, release, pick, settle, calm, Heard, Step, Run}
-use Rattle.turns.specs.Steps.{Started}
+use Rattle.turns.specs.Steps.{Next, Started}
 use Rattle.turns.specs.declared.State.{State}
+use Rattle.turns.specs.declared.Turn.{Turn}
 
 -- A job is of a stream that exists. Once it was accepted a deadline ago or longer, a critical one has finished or has had all its certain units, and a background one has finished or has had its budget, unless it was dropped. Only background jobs are dropped.
 pub record InTime (records : ℕ → Option Record) (e : Entry) : Type 0 where
@@ -40,6 +41,8 @@ pub record Kept {S : Type 0} (k : Kind S) (records : ℕ → Option Record) (b :
   pub mode : s.mode ≡ l.mode
   pub in_time : AllByRecursion (InTime records) l.entries
   pub counted : Counted s l
+  -- a turn that is out is that of the job that goes next, which still waits
+  pub turn_out : (turn : Turn) → s.turn ≡ Some turn → Next s turn
   -- whatever call comes next, jobs are dropped only by a settle that begins an overrun
   pub dropping : (c : S) (t : State) (call : Call) (h : Heard) → Step k b s call h c t → (t.tally.dropped ≡ s.tally.dropped) ⊎ BeginsOverrun call s t
 

@@ -13,7 +13,7 @@ use Rattle.demand.specs.Demands.{total, share, demand, Fits}
 use Rattle.demand.specs.Horizons.{Common}
 use Rattle.demand.specs.Shares.{normal_share, overrun_share}
 use Rattle.demand.specs.Verdicts.{point_at, InReach, AcceptsAll, ExceedsFirst, Exceeds}
-use Rattle.demand.proofs.Beyond.{fits_beyond}
+use Rattle.demand.proofs.Beyond.{accepts_all}
 use Rattle.table.specs.Sporadics.{sporadic, states_in, Sporadic}
 use Rattle.table.specs.Tables.{record_of, ceiling_of, RecordState as State}
 use Rattle.table.specs.Waits.{every}
@@ -153,22 +153,20 @@ module _ (x y : Row) (b : Sporadic) (pair : Pair x y b) where
   accepts_pair v l near fits above lengths from to is =
       let reach = reach_pair v.horizon l near in
       let all : (t : ℕ) → t ≤ v.horizon → Fits sporadic b t = λ t h. fits_pair (v.horizon + 1) fits t (omega arith) in
-      record {
-        looked = record {
-          reach = reach;
-          fits = all;
-          lengths = lengths;
-          nearest = record {
-            from = from;
-            upto = to;
-            is = is ∙ sym (point_pair v.point.phase v.point.length);
-            least = λ p t some within.
-                let back : t - 1 + 1 ≡ t = omega arith in
-                subst (λ (n : ℕ). point_below (point_at sporadic b p n) v.point ≡ false) back (above_pair v.horizon v.point above p (t - 1) (omega arith));
-          };
+      accepts_all sporadic b (ceiling_lawful (λ r. r) (states_in b)) v
+      (record {
+        reach = reach;
+        fits = all;
+        lengths = lengths;
+        nearest = record {
+          from = from;
+          upto = to;
+          is = is ∙ sym (point_pair v.point.phase v.point.length);
+          least = λ p t some within.
+              let back : t - 1 + 1 ≡ t = omega arith in
+              subst (λ (n : ℕ). point_below (point_at sporadic b p n) v.point ≡ false) back (above_pair v.horizon v.point above p (t - 1) (omega arith));
         };
-        feasible = fits_beyond sporadic b (ceiling_lawful (λ r. r) (states_in b)) v.horizon reach.horizon.common all;
-      }
+      })
 
   first_pair : (p : Phase) (t : ℕ) → first_test x y p t ≡ true → ExceedsFirst sporadic b p t
   first_pair Normal t e = omega (arith, demand_pair Normal t, ltb-true t (pair_demand x y Normal t) e)
