@@ -87,9 +87,9 @@ module _ {S : Type 0} (k : Kind S) (b : S) where
   judged answer says = record {
     says = says;
     exactly = record {
-      none = λ z. sym (only_answer answer (Err NoStream) says z);
-      many = λ l. sym (only_answer answer (Err TooManyStreams) says l);
-      far = λ f. sym (only_answer answer (Err HorizonTooFar) says f);
+      none = λ z. (NoStream, sym (only_answer answer (Err NoStream) says z), refl);
+      many = λ l. (TooManyStreams, sym (only_answer answer (Err TooManyStreams) says l), refl);
+      far = λ f. (HorizonTooFar, sym (only_answer answer (Err HorizonTooFar) says f), refl);
       within = λ h reach. (ok_feasible answer says, λ fits. feasible_ok h reach fits answer says);
       only = λ other s. only_answer answer other says s;
     };

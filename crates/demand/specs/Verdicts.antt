@@ -4,6 +4,7 @@ use Rattle.std.specs.Prelude.{◌≡◌, ℕ, ◌+◌, ◌<◌, ◌≤◌, true,
 use Rattle.stream.specs.declared.Phase.{Phase}
 use Rattle.stream.specs.declared.Phase.TheVariants.{Normal, Overrun}
 use Rattle.stream.specs.declared.Point.{Point}
+use Rattle.stream.specs.Refusals.{RefusedBy}
 use Rattle.stream.specs.declared.Refusal.{Refusal}
 use Rattle.stream.specs.declared.Refusal.TheVariants.{OutOfShape, TooManyStreams, SporadicAfterRaster, GapOutOfLimits, DeadlineOutOfLimits, BudgetOutOfLimits, ShortDeadlineOutOfLimits, PhaseOutOfLimits, NoStream, HorizonTooFar, DemandExceeded, MomentTooLate, FactorOutOfLimits, NoSuchStream, TurnOut, BackgroundInOverrun, NotOpen, NoTurnToSettle, JobWaits, AlreadyNormal, Shut, LastMoment}
 use Rattle.stream.specs.declared.Verdict.{Verdict}
@@ -99,9 +100,9 @@ Says k b (Err e) = Refuses k b e
 
 -- which answer a bank gets
 pub record ExactlyWhen {S : Type 0} (k : Kind S) (b : S) (answer : Result Verdict Refusal) : Type 0 where
-  pub none : k.streams b ≡ 0 → answer ≡ Err NoStream
-  pub many : 32 < k.streams b → answer ≡ Err TooManyStreams
-  pub far : Far k b → answer ≡ Err HorizonTooFar
+  pub none : k.streams b ≡ 0 → RefusedBy 9 answer
+  pub many : 32 < k.streams b → RefusedBy 2 answer
+  pub far : Far k b → RefusedBy 10 answer
   -- within reach it is accepted exactly if no demand exceeds any length at all
   pub within : (h : ℕ) → InReach k b h → (is_ok answer ≡ true) ↔ Feasible k b
   -- no other answer says what is true of the bank

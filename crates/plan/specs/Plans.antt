@@ -3,10 +3,10 @@
 use Rattle.std.specs.Prelude.{◌≡◌, ℕ, ◌+◌, ◌<◌, ◌≤◌, List, [], ◌∷◌, ◌++◌, length, Some, None, Ok, Err, Option, Result, ◌≢◌}
 use Rattle.stream.specs.Faults.{whole_line}
 use Rattle.stream.specs.Making.{Made}
+use Rattle.stream.specs.Refusals.{number}
 use Rattle.stream.specs.declared.Fault.{Fault}
 use Rattle.stream.specs.declared.Layer.TheVariants.{Plan}
 use Rattle.stream.specs.declared.Refusal.{Refusal}
-use Rattle.stream.specs.declared.Refusal.TheVariants.{TooManyStreams, SporadicAfterRaster, PhaseOutOfLimits}
 use Rattle.stream.specs.declared.Row.{Row}
 use Rattle.stream.specs.declared.limits.Record.{Record}
 use Rattle.bank.specs.Kinds.{Kind}
@@ -56,16 +56,16 @@ with_raster rows stream phase = record { spaced = rows.spaced; aligned = rows.al
 
 -- A sporadic stream: refused as the 33rd stream, after one on a raster, or by the first limit that it breaks, and then nothing changes; else it is added last.
 pub data AddedSporadic (before : Rows) (row : Row) : Result (Unit {0}) Refusal → Rows → Type 0 where
-  sporadic_full : 32 ≤ size before → AddedSporadic before row (Err TooManyStreams) before
-  sporadic_disordered : size before < 32 → 0 < length before.aligned → AddedSporadic before row (Err SporadicAfterRaster) before
+  sporadic_full : {e : Refusal} → 32 ≤ size before → number e ≡ 2 → AddedSporadic before row (Err e) before
+  sporadic_disordered : {e : Refusal} → size before < 32 → 0 < length before.aligned → number e ≡ 3 → AddedSporadic before row (Err e) before
   sporadic_unfit : {e : Refusal} → size before < 32 → length before.aligned ≡ 0 → Made row (Err e) → AddedSporadic before row (Err e) before
   sporadic_added : (stream : Record) → size before < 32 → length before.aligned ≡ 0 → stream.row ≡ row → AddedSporadic before row (Ok tt) (with_sporadic before stream)
 
 -- A stream on a raster: refused as the 33rd stream, by the first limit that it breaks, or for its phase.
 pub data AddedRaster (before : Rows) (row : Row) (phase : ℕ) : Result (Unit {0}) Refusal → Rows → Type 0 where
-  raster_full : 32 ≤ size before → AddedRaster before row phase (Err TooManyStreams) before
+  raster_full : {e : Refusal} → 32 ≤ size before → number e ≡ 2 → AddedRaster before row phase (Err e) before
   raster_unfit : {e : Refusal} → size before < 32 → Made row (Err e) → AddedRaster before row phase (Err e) before
-  raster_unphased : (stream : Record) → size before < 32 → stream.row ≡ row → row.gap ≤ phase → AddedRaster before row phase (Err PhaseOutOfLimits) before
+  raster_unphased : {e : Refusal} (stream : Record) → size before < 32 → stream.row ≡ row → row.gap ≤ phase → number e ≡ 8 → AddedRaster before row phase (Err e) before
   raster_added : (stream : Record) → size before < 32 → stream.row ≡ row → phase < row.gap → AddedRaster before row phase (Ok tt) (with_raster before stream phase)
 
 -- what a stream line answers

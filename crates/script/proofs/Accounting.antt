@@ -21,7 +21,7 @@ use Rattle.script.specs.Accounts.{heard_answer, heard_line, Logged, last, line, 
 use Rattle.script.specs.Performing.{telling, told, turn_given, Performed}
 use Rattle.script.specs.Playing.{Played, finished, broken, called}
 
-clash : {X : Type 0} → {e : Refusal} → ◌≡◌ {A = Option Refusal} (Some e) None → X
+clash : {X E : Type 0} → {e : E} → ◌≡◌ {A = Option E} (Some e) None → X
 clash was = let z : ◌≡◌ {A = ℕ} 0 1 = cc in absurd (let w : ⊥ = omega arith in w)
 
 no_total : {X : Type 0} → {fault : Fault} {counts : Counts} → Refused fault ≡ Total counts → X

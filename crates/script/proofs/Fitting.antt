@@ -1,6 +1,6 @@
 -- The answers to a text have room in a buffer that has 80 bytes for each of its newlines and for two lines more.
 
-use Rattle.std.proofs.Common.{◌≡◌, ℕ, ◌+◌, ◌*◌, ◌≤◌, ◌<◌, List, [], ◌∷◌, length, codes, None, Option, sym, ap, subst, ⊎_elim, lit≤, arith, length-append, true, false}
+use Rattle.std.proofs.Common.{◌∙◌, ◌≡◌, ℕ, ◌+◌, ◌*◌, ◌≤◌, ◌<◌, List, [], ◌∷◌, length, codes, None, Option, sym, ap, subst, ⊎_elim, lit≤, arith, length-append, true, false}
 use Rattle.std.proofs.lemmas.Bool.{cases_lt}
 use Rattle.std.proofs.lemmas.List.{length-replicate}
 use Rattle.std.specs.List.{AllByRecursion}
@@ -27,7 +27,7 @@ use Rattle.plan.specs.Plans.{PlanBank, no_rows, plan_kind}
 use Rattle.plan.specs.Written.{line_of, lines_of}
 use Rattle.script.proofs.Accounting.{line_run}
 use Rattle.script.proofs.Sizes.{accepted_small, refused_small}
-use Rattle.script.proofs.Spans.{Near, newlines_append, numbered_newline, rest_shorter, misshapen_near, plan_spans}
+use Rattle.script.proofs.Spans.{numbered_pointless, Near, newlines_append, numbered_newline, rest_shorter, misshapen_near, plan_spans}
 use Rattle.script.proofs.Telling.{Between, call_tells}
 use Rattle.script.specs.Buffers.{newlines, room_for}
 use Rattle.script.specs.Playing.{Played, finished, broken, called}
@@ -94,7 +94,7 @@ unopened_ordinary text fault few (shut {start = start} bank b s e planned starte
     by_moment : (v : Verdict) → e ≡ DemandExceeded v → OrdinaryPoint v.point
     by_moment v told =
         ⊎_elim
-        (λ (late : last_moment < start.moment). let was = ap (λ (x : State). x.verdict) (started.late late).1 in let no : ⊥ = cc in absurd no)
+        (λ (late : last_moment < start.moment). let (same, (f, was, numbered), fresh) = started.late late in let one : e ≡ f = cc in absurd (numbered_pointless v numbered (λ z. omega arith) (sym one ∙ told)))
         (λ (early : start.moment ≤ last_moment). let decided = (started.begun early).1 in refused_small plan_kind plan_lawful b e (subst (Says plan_kind b) is decided.says) v told)
         (cases_lt last_moment start.moment)
 
@@ -102,7 +102,7 @@ unopened_ordinary text fault few (shut {start = start} bank b s e planned starte
 opened_between : {text : List ℕ} {verdict : Verdict} {b : PlanBank} {s : State} {rest : List ℕ} {end : ℕ} → Opened text 1 no_rows verdict b s rest end → Between s × (s.tally.accepted ≡ 0) × OrdinaryVerdict verdict
 opened_between {verdict = verdict} {b = b} {s = s} opened =
     ⊎_elim
-    (λ (late : last_moment < opened.start.moment). let was = ap (λ (x : State). x.verdict) (opened.begun.late late).1 in let judged = opened.judged in let no : ⊥ = cc in absurd no)
+    (λ (late : last_moment < opened.start.moment). let (same, (e, was, numbered), fresh) = opened.begun.late late in let judged = opened.judged in let no : ⊥ = cc in absurd no)
     (λ (early : opened.start.moment ≤ last_moment).
     let (begins, decided, is) = opened.begun.begun early in
     let says = subst (Says plan_kind b) opened.judged decided.says in

@@ -1,12 +1,13 @@
 -- How much of a text a plan takes, and where a fault in it can stand.
 
-use Rattle.std.proofs.Common.{◌≡◌, ℕ, ◌+◌, ◌≤◌, List, ◌++◌, length, codes, decimal, Some, None, Ok, Err, Option, Result, ap, arith, length-append}
+use Rattle.std.proofs.Common.{sym, ◌∙◌, ◌≡◌, ℕ, ◌+◌, ◌≤◌, List, ◌++◌, length, codes, decimal, Some, None, Ok, Err, Option, Result, ap, arith, length-append}
 use borrow.Author.Tests.{clash}
 use Rattle.std.proofs.lemmas.List.Sums.{sum_by-append}
 use Rattle.stream.specs.Making.{Made}
 use Rattle.stream.specs.declared.Fault.{Fault}
 use Rattle.stream.specs.declared.Refusal.{Refusal}
-use Rattle.stream.specs.declared.Refusal.TheVariants.{GapOutOfLimits, DeadlineOutOfLimits, BudgetOutOfLimits, ShortDeadlineOutOfLimits, DemandExceeded}
+use Rattle.stream.specs.Refusals.{number, RefusedBy}
+use Rattle.stream.specs.declared.Refusal.TheVariants.{DemandExceeded}
 use Rattle.stream.specs.declared.Row.{Row}
 use Rattle.stream.specs.declared.Verdict.{Verdict}
 use Rattle.stream.specs.declared.limits.Record.{Record}
@@ -42,32 +43,31 @@ misshapen_near off = record {
   pointless = λ v e. let own = ap (λ (f : Fault). f.refusal) off.place in let no : ⊥ = cc in absurd no;
 }
 
+-- what is refused by another number than 11 shows no point
+pub numbered_pointless : {e : Refusal} (v : Verdict) {n : ℕ} → number e ≡ n → (11 ≡ n → ⊥) → e ≡ DemandExceeded v → ⊥
+numbered_pointless v numbered other is = other (ap number (sym is) ∙ numbered)
+
 -- making a record is not refused by a demand
 made_pointless : (row : Row) (e : Refusal) (v : Verdict) → Made row (Err e) → e ≡ DemandExceeded v → ⊥
 made_pointless row e v made is =
-    by_gap (made.gap (λ gap. by_deadline (made.deadline gap (λ deadline. by_budgets (made.budgets gap deadline (λ budgets. by_short (made.short gap deadline budgets (λ short. clash (made.made gap deadline budgets short)))))))))
+    by 4 (λ z. omega arith)
+    (made.gap (λ gap. by 5 (λ z. omega arith)
+    (made.deadline gap (λ deadline. by 6 (λ z. omega arith)
+    (made.budgets gap deadline (λ budgets. by 7 (λ z. omega arith)
+    (made.short gap deadline budgets (λ short. clash (made.made gap deadline budgets short)))))))))
   where
-    by_gap : ◌≡◌ {A = Result Record Refusal} (Err e) (Err GapOutOfLimits) → ⊥
-    by_gap was = cc
-
-    by_deadline : ◌≡◌ {A = Result Record Refusal} (Err e) (Err DeadlineOutOfLimits) → ⊥
-    by_deadline was = cc
-
-    by_budgets : ◌≡◌ {A = Result Record Refusal} (Err e) (Err BudgetOutOfLimits) → ⊥
-    by_budgets was = cc
-
-    by_short : ◌≡◌ {A = Result Record Refusal} (Err e) (Err ShortDeadlineOutOfLimits) → ⊥
-    by_short was = cc
+    by : (n : ℕ) → (11 ≡ n → ⊥) → RefusedBy {X = Record} n (Err e) → ⊥
+    by n other (f, told, numbered) = let same : e ≡ f = cc in numbered_pointless v numbered other (sym same ∙ is)
 
 sporadic_pointless : {before next : Rows} {row : Row} {e : Refusal} (v : Verdict) → AddedSporadic before row (Err e) next → e ≡ DemandExceeded v → ⊥
-sporadic_pointless v (sporadic_full full) is = cc
-sporadic_pointless v (sporadic_disordered room after) is = cc
-sporadic_pointless {row = row} {e = e} v (sporadic_unfit room first made) is = made_pointless row e v made is
+sporadic_pointless v (sporadic_full full numbered) = numbered_pointless v numbered (λ z. omega arith)
+sporadic_pointless v (sporadic_disordered room after numbered) = numbered_pointless v numbered (λ z. omega arith)
+sporadic_pointless {row = row} {e = e} v (sporadic_unfit room first made) = made_pointless row e v made
 
 raster_pointless : {before next : Rows} {row : Row} {phase : ℕ} {e : Refusal} (v : Verdict) → AddedRaster before row phase (Err e) next → e ≡ DemandExceeded v → ⊥
-raster_pointless v (raster_full full) is = cc
-raster_pointless {row = row} {e = e} v (raster_unfit room made) is = made_pointless row e v made is
-raster_pointless v (raster_unphased stream room same late) is = cc
+raster_pointless v (raster_full full numbered) = numbered_pointless v numbered (λ z. omega arith)
+raster_pointless {row = row} {e = e} v (raster_unfit room made) = made_pointless row e v made
+raster_pointless v (raster_unphased stream room same late numbered) = numbered_pointless v numbered (λ z. omega arith)
 
 added_pointless : (before next : Rows) (e : Refusal) (stream : Line) (v : Verdict) → Added before stream (Err e) next → e ≡ DemandExceeded v → ⊥
 added_pointless before next e (Sporadic row) v added is = sporadic_pointless v added is

@@ -7,8 +7,7 @@ use Rattle.std.proofs.lemmas.List.{length-set, length-map}
 use Rattle.stream.specs.Faults.{whole_line}
 use Rattle.stream.specs.declared.Layer.TheVariants.{Engine}
 use Rattle.stream.specs.declared.Refusal.{Refusal}
-use Rattle.stream.specs.declared.Refusal.TheVariants.{DemandExceeded, NoSuchStream, TurnOut, BackgroundInOverrun, NotOpen, JobWaits, AlreadyNormal, Shut, LastMoment}
-use Rattle.stream.specs.declared.Verdict.{Verdict}
+use Rattle.stream.specs.Refusals.{number}
 use Rattle.stream.specs.declared.limits.Record.{Record}
 use Rattle.bank.specs.Kinds.{Kind}
 use Rattle.turns.proofs.Lasting.{passed, job_place}
@@ -30,47 +29,50 @@ use Rattle.text.specs.declared.call.Call.{Call}
 use Rattle.text.specs.declared.call.Call.TheVariants.{Release, Turn as TurnCall, Calm}
 use Rattle.script.specs.Performing.{telling, told, turn_given, Performed}
 
--- a refusal that shows no point
-abbrev Pointless : Option Refusal → Type 0
-Pointless o = (v : Verdict) → o ≡ Some (DemandExceeded v) → ⊥
+-- not refused by 11, which alone shows a point
+abbrev Pointless : Option ℕ → Type 0
+Pointless o = o ≡ Some 11 → ⊥
 
 none_pointless : Pointless None
-none_pointless v is = absurd (clash (ap is_some is))
+none_pointless is = absurd (clash (ap is_some is))
 
--- a test that refuses by no demand, and then others
-test_pointless : (t : Bool) (e : Refusal) (rest : Option Refusal) → Pointless (Some e) → Pointless rest → Pointless (cond t (Some e) rest)
-test_pointless true e rest here later = here
-test_pointless false e rest here later = later
+-- a test that refuses by another number, and then others
+test_pointless : (t : Bool) (n : ℕ) (rest : Option ℕ) → Pointless (Some n) → Pointless rest → Pointless (cond t (Some n) rest)
+test_pointless true n rest here later = here
+test_pointless false n rest here later = later
+
+other : (n : ℕ) → (n ≡ 11 → ⊥) → Pointless (Some n)
+other n differs is = let same : n ≡ 11 = cc in differs same
 
 release_pointless : (s : State) (i : ℕ) (found : Option Record) (opening : ℕ) → Pointless (release_refusal s i found opening)
-release_pointless s i found opening = test_pointless (is_shut s.verdict) Shut (barred s i found opening) (λ v is. cc) (by_record found)
+release_pointless s i found opening = test_pointless (is_shut s.verdict) 23 (barred s i found opening) (other _ (λ e. omega arith)) (by_record found)
   where
     by_record : (found : Option Record) → Pointless (barred s i found opening)
-    by_record None = λ v is. cc
+    by_record None = other _ (λ e. omega arith)
     by_record (Some r) =
-        test_pointless (ltb 32 i) NoSuchStream _ (λ v is. cc)
-        (test_pointless (is_some s.turn) TurnOut _ (λ v is. cc)
-        (test_pointless (background r.row.class && in_overrun s.mode) BackgroundInOverrun _ (λ v is. cc)
-        (test_pointless (is_some (job_of s.jobs i) || eqb opening 0) NotOpen None (λ v is. cc) none_pointless)))
+        test_pointless (ltb 32 i) 14 _ (other _ (λ e. omega arith))
+        (test_pointless (is_some s.turn) 15 _ (other _ (λ e. omega arith))
+        (test_pointless (background r.row.class && in_overrun s.mode) 16 _ (other _ (λ e. omega arith))
+        (test_pointless (is_some (job_of s.jobs i) || eqb opening 0) 17 None (other _ (λ e. omega arith)) none_pointless)))
 
 pick_pointless : (s : State) → Pointless (pick_refusal s)
 pick_pointless s =
-    test_pointless (is_shut s.verdict) Shut _ (λ v is. cc)
-    (test_pointless (is_some s.turn) TurnOut _ (λ v is. cc)
-    (test_pointless (leb last_moment s.moment) LastMoment None (λ v is. cc) none_pointless))
+    test_pointless (is_shut s.verdict) 23 _ (other _ (λ e. omega arith))
+    (test_pointless (is_some s.turn) 15 _ (other _ (λ e. omega arith))
+    (test_pointless (leb last_moment s.moment) 24 None (other _ (λ e. omega arith)) none_pointless))
 
 calm_pointless : (s : State) → Pointless (calm_refusal s)
 calm_pointless s =
-    test_pointless (is_shut s.verdict) Shut _ (λ v is. cc)
-    (test_pointless (is_some s.turn) TurnOut _ (λ v is. cc) (by_mode (in_overrun s.mode)))
+    test_pointless (is_shut s.verdict) 23 _ (other _ (λ e. omega arith))
+    (test_pointless (is_some s.turn) 15 _ (other _ (λ e. omega arith)) (by_mode (in_overrun s.mode)))
   where
-    by_waiting : (t : Bool) → Pointless (cond t None (Some JobWaits))
+    by_waiting : (t : Bool) → Pointless (cond {A = Option ℕ} t None (Some 19))
     by_waiting true = none_pointless
-    by_waiting false = λ v is. cc
+    by_waiting false = other _ (λ e. omega arith)
 
-    by_mode : (t : Bool) → Pointless (cond t (cond (eqb (waiting s.jobs) 0) None (Some JobWaits)) (Some AlreadyNormal))
+    by_mode : (t : Bool) → Pointless (cond {A = Option ℕ} t (cond (eqb (waiting s.jobs) 0) None (Some 19)) (Some 20))
     by_mode true = by_waiting (eqb (waiting s.jobs) 0)
-    by_mode false = λ v is. cc
+    by_mode false = other _ (λ e. omega arith)
 
 -- a worker between two calls
 pub record Between (s : State) : Type 0 where
@@ -83,9 +85,9 @@ pub record Tells (s : State) (answer : Answer) (t : State) : Type 0 where
   pub few : t.tally.accepted ≤ s.tally.accepted + 1
 
 -- a refused call is told at its line, and nothing changes
-refused_tells : (s t : State) (line : ℕ) (e : Refusal) (answer : Answer) (o : Option Refusal) → Between s → line ≤ 65537 → Pointless o → o ≡ Some e → t ≡ s → answer ≡ Refused (whole_line e Engine line) → Tells s answer t
+refused_tells : (s t : State) (line : ℕ) (e : Refusal) (answer : Answer) (o : Option ℕ) → Between s → line ≤ 65537 → Pointless o → o ≡ Some (number e) → t ≡ s → answer ≡ Refused (whole_line e Engine line) → Tells s answer t
 refused_tells s t line e answer o between near pointless was same is = record {
-  ordinary = subst Ordinary (sym is) (near, lit≤ tt, λ v z. absurd (pointless v (was ∙ ap Some z)));
+  ordinary = subst Ordinary (sym is) (near, lit≤ tt, λ v z. absurd (pointless (was ∙ ap (λ (r : Refusal). Some (number r)) z)));
   between = subst Between (sym same) between;
   few = omega (arith, ap (λ (x : State). x.tally.accepted) same);
 }
@@ -124,9 +126,9 @@ module _ {S : Type 0} (k : Kind S) where
   turn_tells b c s mid t done line None (Err f) between near (free, turn, next, out) was =
       absurd (clash (sym (ap (λ (m : State). is_some (settle_refusal m None)) out) ∙ ap is_some was.0))
   turn_tells b c s mid t done line None (Ok settled) between near (free, turn, next, out) (clear, ticks, is, left) =
-      let not_shut = passed (is_shut s.verdict) Shut _ free in
-      let no_turn = passed (is_some s.turn) TurnOut _ not_shut.1 in
-      let in_time = passed (leb last_moment s.moment) LastMoment None no_turn.1 in
+      let not_shut = passed (is_shut s.verdict) 23 _ free in
+      let no_turn = passed (is_some s.turn) 15 _ not_shut.1 in
+      let in_time = passed (leb last_moment s.moment) 24 None no_turn.1 in
       let before = leb-false last_moment s.moment in_time.0 in
       settled_tells s t turn done settled between (omega (arith, before)) next
       (is ∙ ap (λ (m : State). told_of m (runner m.turn m.jobs) done) out)

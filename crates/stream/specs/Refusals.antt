@@ -1,6 +1,6 @@
 -- The number of each refusal and the letter of each layer, as users see them.
 
-use Rattle.std.specs.Prelude.{ℕ}
+use Rattle.std.specs.Prelude.{◌≡◌, ℕ, Err, Result}
 use Rattle.stream.specs.declared.Layer.{Layer}
 use Rattle.stream.specs.declared.Layer.TheVariants.{Text, Plan, Demand, Engine}
 use Rattle.stream.specs.declared.Refusal.{Refusal}
@@ -29,6 +29,10 @@ number JobWaits = 19
 number AlreadyNormal = 20
 number Shut = 23
 number LastMoment = 24
+
+-- an answer that is refused by a number
+abbrev pub RefusedBy : {X : Type 0} → ℕ → Result X Refusal → Type 0
+RefusedBy n answer = (e : Refusal) × (answer ≡ Err e) × (number e ≡ n)
 
 -- T, P, D and E
 abbrev pub letter : Layer → ℕ

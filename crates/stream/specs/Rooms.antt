@@ -2,7 +2,7 @@
 
 use Rattle.std.specs.Prelude.{◌≡◌, ℕ, ◌<◌, ◌≤◌, MatchResult, Result}
 use Rattle.stream.specs.declared.Refusal.{Refusal}
-use Rattle.stream.specs.declared.Refusal.TheVariants.{TooManyStreams}
+use Rattle.stream.specs.Refusals.{number}
 
 abbrev pub RoomTold : ℕ → Result (Unit {0}) Refusal → Type 0
-RoomTold streams answer = MatchResult answer (λ _. streams < 32) (λ refusal. (refusal ≡ TooManyStreams) × (32 ≤ streams))
+RoomTold streams answer = MatchResult answer (λ _. streams < 32) (λ refusal. (number refusal ≡ 2) × (32 ≤ streams))

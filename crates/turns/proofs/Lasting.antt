@@ -12,7 +12,6 @@ use Rattle.stream.specs.declared.Class.TheVariants.{Critical, Background}
 use Rattle.stream.specs.declared.Phase.{Phase}
 use Rattle.stream.specs.declared.Phase.TheVariants.{Normal, Overrun}
 use Rattle.stream.specs.declared.Refusal.{Refusal}
-use Rattle.stream.specs.declared.Refusal.TheVariants.{MomentTooLate, NoSuchStream, TurnOut, BackgroundInOverrun, NotOpen, NoTurnToSettle, JobWaits, AlreadyNormal, Shut}
 use Rattle.stream.specs.declared.Row.{Row}
 use Rattle.stream.specs.declared.Verdict.{Verdict}
 use Rattle.stream.specs.declared.limits.Record.{Record}
@@ -41,7 +40,7 @@ use Rattle.turns.proofs.Keeping.{none_waits, sane_idle, sane_released, sane_ende
 use Rattle.turns.proofs.Tracking.{Tracks, tracks_new, tracks_older, same_end, tracks_ended, tracked_counts}
 
 -- a test of a call's refusal did not hold
-pub passed : (t : Bool) (e : Refusal) (rest : Option Refusal) → cond t (Some e) rest ≡ None → (t ≡ false) × (rest ≡ None)
+pub passed : {X : Type 0} (t : Bool) (e : X) (rest : Option X) → cond t (Some e) rest ≡ None → (t ≡ false) × (rest ≡ None)
 passed true e rest h = absurd (clash (sym (ap is_some h)))
 passed false e rest h = (refl, h)
 
@@ -125,11 +124,11 @@ module _ {S : Type 0} (k : Kind S) (laws : Laws k) (origin : S) (few : k.streams
 
   live_released : (b c : S) (s : State) (l : Ledger) (i : ℕ) (r : Record) → Live b s l → k.records b i ≡ Some r → release_refusal s i (Some r) (k.opening b i 0) ≡ None → k.accepts b i c → Live c (with_job s i (released r.row s.moment)) (record { mode = l.mode; entries = l.entries ++ newcomer i ∷ [] })
   live_released b c s l i r live e free accepts =
-      let not_shut = passed (is_shut s.verdict) Shut (barred s i (Some r) (k.opening b i 0)) free in
-      let placed = passed (ltb 32 i) NoSuchStream _ not_shut.1 in
-      let no_turn = passed (is_some s.turn) TurnOut _ placed.1 in
-      let allowed = passed (background r.row.class && in_overrun s.mode) BackgroundInOverrun _ no_turn.1 in
-      let opens = passed (is_some (job_of s.jobs i) || eqb (k.opening b i 0) 0) NotOpen None allowed.1 in
+      let not_shut = passed (is_shut s.verdict) 23 (barred s i (Some r) (k.opening b i 0)) free in
+      let placed = passed (ltb 32 i) 14 _ not_shut.1 in
+      let no_turn = passed (is_some s.turn) 15 _ placed.1 in
+      let allowed = passed (background r.row.class && in_overrun s.mode) 16 _ no_turn.1 in
+      let opens = passed (is_some (job_of s.jobs i) || eqb (k.opening b i 0) 0) 17 None allowed.1 in
       let parts = or_parts (is_some (job_of s.jobs i)) (eqb (k.opening b i 0) 0) opens.0 in
       let some_open : 0 < k.opening b i 0 = let ne = eqb-false (k.opening b i 0) 0 parts.1 in omega (arith, ne) in
       let there : R i ≡ Some r = sym (live.same.records i) ∙ e in
@@ -201,8 +200,8 @@ module _ {S : Type 0} (k : Kind S) (laws : Laws k) (origin : S) (few : k.streams
 
   live_calmed : (b : S) (s : State) (l : Ledger) → Live b s l → calm_refusal s ≡ None → Live b (calmed s) (record { mode = Normal; entries = l.entries })
   live_calmed b s l live free =
-      let not_shut = passed (is_shut s.verdict) Shut _ free in
-      let no_turn = passed (is_some s.turn) TurnOut _ not_shut.1 in
+      let not_shut = passed (is_shut s.verdict) 23 _ free in
+      let no_turn = passed (is_some s.turn) 15 _ not_shut.1 in
       let none : waiting s.jobs ≡ 0 = quiet (in_overrun s.mode) no_turn.1 in
       let t = live.tracks in
       record {
@@ -212,8 +211,8 @@ module _ {S : Type 0} (k : Kind S) (laws : Laws k) (origin : S) (few : k.streams
         tracks = record { mode = refl; known = t.known; each = t.each; accepted = t.accepted; finishes = t.finishes; cuts = t.cuts; drops = t.drops };
       }
     where
-      quiet : (t : Bool) → cond t (cond (eqb (waiting s.jobs) 0) None (Some JobWaits)) (Some AlreadyNormal) ≡ None → waiting s.jobs ≡ 0
-      quiet true h = ⊎_elim (λ (z : eqb (waiting s.jobs) 0 ≡ true). eqb-true (waiting s.jobs) 0 z) (λ (z : eqb (waiting s.jobs) 0 ≡ false). absurd (clash (sym (ap is_some (sym (ap (λ (b : Bool). cond b None (Some JobWaits)) z) ∙ h))))) (cases_Bool (eqb (waiting s.jobs) 0))
+      quiet : (t : Bool) → cond {A = Option ℕ} t (cond (eqb (waiting s.jobs) 0) None (Some 19)) (Some 20) ≡ None → waiting s.jobs ≡ 0
+      quiet true h = ⊎_elim (λ (z : eqb (waiting s.jobs) 0 ≡ true). eqb-true (waiting s.jobs) 0 z) (λ (z : eqb (waiting s.jobs) 0 ≡ false). absurd (clash (sym (ap is_some (sym (ap (λ (b : Bool). cond {A = Option ℕ} b None (Some 19)) z) ∙ h))))) (cases_Bool (eqb (waiting s.jobs) 0))
       quiet false h = absurd (clash (sym (ap is_some h)))
 
   -- Any call.
@@ -240,7 +239,7 @@ module _ {S : Type 0} (k : Kind S) (laws : Laws k) (origin : S) (few : k.streams
       subst (λ (x : State). Live c x (entered R l (settle slip done) h)) (sym e2)
       (settled_after b c s l slip done live ticks s.turn refl (turn_out slip s.turn free) h (z ∙ ap (λ (x : Settled). heard_turn (Ok x)) is))
     where
-      turn_out : (slip : Option Refusal) (turn : Option Turn) → cond (is_some slip || (cond (is_some turn) false true)) (Some NoTurnToSettle) None ≡ None → is_some turn ≡ true
+      turn_out : (slip : Option Refusal) (turn : Option Turn) → cond {A = Option ℕ} (is_some slip || (cond (is_some turn) false true)) (Some 18) None ≡ None → is_some turn ≡ true
       turn_out (Some e) turn w = absurd (clash (sym (ap is_some w)))
       turn_out None None w = absurd (clash (sym (ap is_some w)))
       turn_out None (Some turn) w = refl
@@ -370,7 +369,7 @@ module _ {S : Type 0} (k : Kind S) (laws : Laws k) (origin : S) where
 pub none_late : {S : Type 0} (k : Kind S) (laws : Laws k) (bank : S) (moment : ℕ) (b : S) (s : State) → Started k bank moment b s → NoneLate k b s
 none_late {S} k laws bank moment b s started calls c t run =
     ⊎_elim
-    (λ (late : last_moment < moment). shut_run k laws b moment MomentTooLate empty (started.late late).1 refl run)
+    (λ (late : last_moment < moment). let (same, (e, told, numbered), is) = started.late late in shut_run k laws b moment e empty (is ∙ ap (fresh moment) told) refl run)
     (λ (early : moment ≤ last_moment). let h = started.begun early in judged_run s.verdict h.0 h.1 h.2)
     (cases_lt last_moment moment)
   where

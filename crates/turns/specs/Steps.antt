@@ -4,7 +4,7 @@ use Rattle.std.specs.Prelude.{◌≡◌, ℕ, ◌+◌, ◌<◌, ◌≤◌, Bool,
 use Rattle.stream.specs.declared.Phase.{Phase}
 use Rattle.stream.specs.declared.Phase.TheVariants.{Normal, Overrun}
 use Rattle.stream.specs.declared.Refusal.{Refusal}
-use Rattle.stream.specs.declared.Refusal.TheVariants.{MomentTooLate, NoSuchStream, TurnOut, BackgroundInOverrun, NotOpen, NoTurnToSettle, JobWaits, AlreadyNormal, Shut, LastMoment}
+use Rattle.stream.specs.Refusals.{number, RefusedBy}
 use Rattle.stream.specs.declared.Verdict.{Verdict}
 use Rattle.stream.specs.declared.limits.Record.{Record}
 use Rattle.bank.specs.Kinds.{Kind}
@@ -38,7 +38,7 @@ fresh moment verdict = record {
 
 -- From a bank and a moment to the bank and the worker: too late a moment leaves the bank as it was; otherwise the bank begins and is judged, and if it is refused the worker is shut.
 pub record Started {S : Type 0} (k : Kind S) (bank : S) (moment : ℕ) (b : S) (s : State) : Type 0 where
-  pub late : last_moment < moment → (b ≡ bank) × (s ≡ fresh moment (Err MomentTooLate))
+  pub late : last_moment < moment → (b ≡ bank) × RefusedBy 12 s.verdict × (s ≡ fresh moment s.verdict)
   pub begun : moment ≤ last_moment → k.begins bank moment b × Decided k b s.verdict × (s ≡ fresh moment s.verdict)
 
 abbrev pub is_shut : Result Verdict Refusal → Bool
@@ -51,17 +51,17 @@ abbrev pub in_overrun : Phase → Bool
 in_overrun Normal = false
 in_overrun Overrun = true
 
--- Why a stream with this record and this opening cannot be released, if it cannot. There are places for 32 streams; an admitted bank has no more.
-abbrev pub barred : State → ℕ → Option Record → ℕ → Option Refusal
-barred s i None opening = Some NoSuchStream
+-- The number by which a stream with this record and this opening is not released, if it is not. There are places for 32 streams; an admitted bank has no more.
+abbrev pub barred : State → ℕ → Option Record → ℕ → Option ℕ
+barred s i None opening = Some 14
 barred s i (Some r) opening =
-    cond (nat_lt 32 i) (Some NoSuchStream)
-    (cond (is_some s.turn) (Some TurnOut)
-    (cond (background r.row.class && in_overrun s.mode) (Some BackgroundInOverrun)
-    (cond (is_some (job_of s.jobs i) || opening == 0) (Some NotOpen) None)))
+    cond (nat_lt 32 i) (Some 14)
+    (cond (is_some s.turn) (Some 15)
+    (cond (background r.row.class && in_overrun s.mode) (Some 16)
+    (cond (is_some (job_of s.jobs i) || opening == 0) (Some 17) None)))
 
-abbrev pub release_refusal : State → ℕ → Option Record → ℕ → Option Refusal
-release_refusal s i found opening = cond (is_shut s.verdict) (Some Shut) (barred s i found opening)
+abbrev pub release_refusal : State → ℕ → Option Record → ℕ → Option ℕ
+release_refusal s i found opening = cond (is_shut s.verdict) (Some 23) (barred s i found opening)
 
 abbrev pub with_job : State → ℕ → Job → State
 with_job s i j = record {
@@ -74,17 +74,17 @@ with_job s i j = record {
 }
 
 abbrev pub Released : {S : Type 0} → Kind S → S → State → ℕ → Result (Unit {0}) Refusal → S → State → Type 0
-Released k b s i (Err e) c t = (release_refusal s i (k.records b i) (k.opening b i 0) ≡ Some e) × (c ≡ b) × (t ≡ s)
+Released k b s i (Err e) c t = (release_refusal s i (k.records b i) (k.opening b i 0) ≡ Some (number e)) × (c ≡ b) × (t ≡ s)
 Released k b s i (Ok _) c t =
     (r : Record) × (k.records b i ≡ Some r) × (release_refusal s i (Some r) (k.opening b i 0) ≡ None) × k.accepts b i c × (t ≡ with_job s i (released r.row s.moment))
 
 -- Pick
 
-abbrev pub pick_refusal : State → Option Refusal
+abbrev pub pick_refusal : State → Option ℕ
 pick_refusal s =
-    cond (is_shut s.verdict) (Some Shut)
-    (cond (is_some s.turn) (Some TurnOut)
-    (cond (nat_le last_moment s.moment) (Some LastMoment) None))
+    cond (is_shut s.verdict) (Some 23)
+    (cond (is_some s.turn) (Some 15)
+    (cond (nat_le last_moment s.moment) (Some 24) None))
 
 -- jobs are compared by their deadline, then by their stream's number
 abbrev pub key : Phase → ℕ → Job → ℕ × ℕ
@@ -102,13 +102,13 @@ with_turn s turn = record { moment = s.moment; mode = s.mode; verdict = s.verdic
 
 -- A slip is void by a refusal, or it stands for the turn that is out.
 abbrev pub Picked : State → Option Refusal → State → Type 0
-Picked s (Some e) t = (pick_refusal s ≡ Some e) × (t ≡ s)
+Picked s (Some e) t = (pick_refusal s ≡ Some (number e)) × (t ≡ s)
 Picked s None t = (pick_refusal s ≡ None) × (turn : Turn) × Next s turn × (t ≡ with_turn s turn)
 
 -- Settle
 
-abbrev pub settle_refusal : State → Option Refusal → Option Refusal
-settle_refusal s slip = cond (is_some slip || (cond (is_some s.turn) false true)) (Some NoTurnToSettle) None
+abbrev pub settle_refusal : State → Option Refusal → Option ℕ
+settle_refusal s slip = cond (is_some slip || (cond (is_some s.turn) false true)) (Some 18) None
 
 -- a moment later, with no turn out
 abbrev pub ticked : State → State
@@ -168,21 +168,21 @@ told_of s None done = NoJob
 told_of s (Some (i, j)) done = Ran i (end_of s.mode j done)
 
 abbrev pub TurnSettled : {S : Type 0} → Kind S → S → State → Option Refusal → Bool → Result Settled Refusal → S → State → Type 0
-TurnSettled k b s slip done (Err e) c t = (settle_refusal s slip ≡ Some e) × (c ≡ b) × (t ≡ s)
+TurnSettled k b s slip done (Err e) c t = (settle_refusal s slip ≡ Some (number e)) × (c ≡ b) × (t ≡ s)
 TurnSettled k b s slip done (Ok answer) c t =
     (settle_refusal s slip ≡ None) × k.ticks b c × (answer ≡ told_of s (runner s.turn s.jobs) done) × (t ≡ after_turn s (runner s.turn s.jobs) done)
 
 -- Calm
 
-abbrev pub calm_refusal : State → Option Refusal
+abbrev pub calm_refusal : State → Option ℕ
 calm_refusal s =
-    cond (is_shut s.verdict) (Some Shut)
-    (cond (is_some s.turn) (Some TurnOut)
-    (cond (in_overrun s.mode) (cond (waiting s.jobs == 0) None (Some JobWaits)) (Some AlreadyNormal)))
+    cond (is_shut s.verdict) (Some 23)
+    (cond (is_some s.turn) (Some 15)
+    (cond (in_overrun s.mode) (cond (waiting s.jobs == 0) None (Some 19)) (Some 20)))
 
 abbrev pub calmed : State → State
 calmed s = record { moment = s.moment; mode = Normal; verdict = s.verdict; turn = s.turn; jobs = s.jobs; tally = s.tally }
 
 abbrev pub Calmed : State → Result (Unit {0}) Refusal → State → Type 0
-Calmed s (Err e) t = (calm_refusal s ≡ Some e) × (t ≡ s)
+Calmed s (Err e) t = (calm_refusal s ≡ Some (number e)) × (t ≡ s)
 Calmed s (Ok _) t = (calm_refusal s ≡ None) × (t ≡ calmed s)

@@ -6,7 +6,7 @@ use Rattle.std.proofs.lemmas.List.{with_items_is}
 use Rattle.std.specs.Vec.{with_items}
 use Rattle.stream.specs.declared.Phase.{Phase}
 use Rattle.stream.specs.declared.Phase.TheVariants.{Normal, Overrun}
-use Rattle.stream.specs.declared.Refusal.TheVariants.{BackgroundInOverrun, NotOpen}
+use Rattle.stream.specs.declared.Refusal.TheVariants.{BackgroundInOverrun}
 use Rattle.stream.specs.declared.Row.{Row}
 use Rattle.stream.specs.declared.Verdict.{Verdict}
 use Rattle.stream.specs.declared.limits.Record.{Record}
@@ -125,17 +125,17 @@ module _ (b : Sporadic) (x y : Record) (lock_row : x.row ≡ critical 4 2) (prev
   lock_taken : (v : Verdict) (c d : Sporadic) → At c 0 0 → At d 6 0 → Step sporadic c (worker v 0 Normal None None None (tally 0 0 0 0)) (release 1) granted d (worker v 0 Normal None (Some (lock 0)) None (tally 1 0 0 0))
   lock_taken v c d from to =
       let s = worker v 0 Normal None None None (tally 0 0 0 0) in
-      (Ok tt, (x, ap (λ (xs : List Wait). record_of (λ r. r) xs 1) from, ap (λ (n : ℕ). release_refusal s 1 (Some x) n) (lock_open c 0 from) ∙ ap (λ (r : Row). cond (background_class r.class && in_overrun Normal) (Some BackgroundInOverrun) None) lock_row, lock_in c d 0 from to, sym (ap (λ (r : Row). with_job s 1 (released r 0)) lock_row)), refl)
+      (Ok tt, (x, ap (λ (xs : List Wait). record_of (λ r. r) xs 1) from, ap (λ (n : ℕ). release_refusal s 1 (Some x) n) (lock_open c 0 from) ∙ ap (λ (r : Row). cond {A = Option ℕ} (background_class r.class && in_overrun Normal) (Some 16) None) lock_row, lock_in c d 0 from to, sym (ap (λ (r : Row). with_job s 1 (released r 0)) lock_row)), refl)
 
   preview_taken : (v : Verdict) (c d : Sporadic) (p : ℕ) (first : Option Job) (n : ℕ) → At c p 0 → At d p 6 → Step sporadic c (worker v 0 Normal None first None (tally n 0 0 0)) (release 2) granted d (worker v 0 Normal None first (Some (preview 0)) (tally (n + 1) 0 0 0))
   preview_taken v c d p first n from to =
       let s = worker v 0 Normal None first None (tally n 0 0 0) in
-      (Ok tt, (y, ap (λ (xs : List Wait). record_of (λ r. r) xs 2) from, ap (λ (o : ℕ). release_refusal s 2 (Some y) o) (preview_open c p from) ∙ ap (λ (r : Row). cond (background_class r.class && in_overrun Normal) (Some BackgroundInOverrun) None) preview_row, preview_in c d p from to, sym (ap (λ (r : Row). with_job s 2 (released r 0)) preview_row)), refl)
+      (Ok tt, (y, ap (λ (xs : List Wait). record_of (λ r. r) xs 2) from, ap (λ (o : ℕ). release_refusal s 2 (Some y) o) (preview_open c p from) ∙ ap (λ (r : Row). cond {A = Option ℕ} (background_class r.class && in_overrun Normal) (Some 16) None) preview_row, preview_in c d p from to, sym (ap (λ (r : Row). with_job s 2 (released r 0)) preview_row)), refl)
 
   preview_refused : (v : Verdict) (c : Sporadic) (p q : ℕ) (m : ℕ) (first : Option Job) (counts : Tally) → At c p q → Step sporadic c (worker v m Overrun None first None counts) (release 2) refused c (worker v m Overrun None first None counts)
   preview_refused v c p q m first counts at =
       let s = worker v m Overrun None first None counts in
-      (Err BackgroundInOverrun, (ap (λ (f : Option Record). release_refusal s 2 f (sporadic.opening c 2 0)) (ap (λ (xs : List Wait). record_of (λ r. r) xs 2) at) ∙ ap (λ (r : Row). cond (background_class r.class && in_overrun Overrun) (Some BackgroundInOverrun) (cond (eqb (sporadic.opening c 2 0) 0) (Some NotOpen) None)) preview_row, refl, refl), refl)
+      (Err BackgroundInOverrun, (ap (λ (f : Option Record). release_refusal s 2 f (sporadic.opening c 2 0)) (ap (λ (xs : List Wait). record_of (λ r. r) xs 2) at) ∙ ap (λ (r : Row). cond {A = Option ℕ} (background_class r.class && in_overrun Overrun) (Some 16) (cond (eqb (sporadic.opening c 2 0) 0) (Some 17) None)) preview_row, refl, refl), refl)
 
   -- the lock's turn beside the preview, or alone, and the preview's alone
   lock_turn : (v : Verdict) (m : ℕ) (u : ℕ) (n : ℕ) → m < 1000000000000 → Next (worker v m Normal None (Some (lock u)) (Some (preview n)) (tally 2 0 0 0)) (Of 1)

@@ -1,10 +1,10 @@
 -- A stream of a table that waits: what accept answers, tick by tick.
 
-use Rattle.std.proofs.Common.{◌≡◌, ℕ, zero, suc, ◌+◌, ◌-◌, ◌<◌, ◌≤◌, Bool, cond, List, Some, Ok, Err, Result, refl, ap, ◌∙◌, ⊎_elim, zero-add, arith}
+use Rattle.std.proofs.Common.{◌≡◌, ℕ, zero, suc, ◌+◌, ◌-◌, ◌<◌, ◌≤◌, Bool, cond, List, Some, Ok, Result, refl, ap, ◌∙◌, ⊎_elim, zero-add, arith}
 use Rattle.std.proofs.lemmas.Bool.{cases_lt, ne_eqb}
 use Rattle.std.specs.Option.{option_map}
+use Rattle.stream.specs.Refusals.{RefusedBy}
 use Rattle.stream.specs.declared.Refusal.{Refusal}
-use Rattle.stream.specs.declared.Refusal.TheVariants.{NotOpen}
 use Rattle.bank.specs.Accepting.{Accepted}
 use Rattle.bank.specs.Kinds.{Kind}
 use Rattle.bank.specs.Runs.{done, tick}
@@ -53,7 +53,7 @@ module _ {B : Type 0} (k : Kind B) (states : B → List State) (table : Tabled k
       waits_down n wait run (table.down b c i (n + wait) s t (e ∙ ap (λ (w : ℕ). Some (waiting w s)) more))
 
   -- still waiting after n ticks, or not
-  pub refused_then : (n wait : ℕ) (b c d : B) (answer : Result (Unit {0}) Refusal) → state_of (states b) i ≡ Some (waiting wait s) → Later k n b c → n < wait → Accepted k c i answer d → answer ≡ Err NotOpen
+  pub refused_then : (n wait : ℕ) (b c d : B) (answer : Result (Unit {0}) Refusal) → state_of (states b) i ≡ Some (waiting wait s) → Later k n b c → n < wait → Accepted k c i answer d → RefusedBy 17 answer
   refused_then n wait b c d answer e run early accepted =
       let whole : wait ≡ n + (wait - n) = omega arith in
       let now = waits_down n (wait - n) run (e ∙ ap (λ (w : ℕ). Some (waiting w s)) whole) in

@@ -1,10 +1,10 @@
 -- The worked plans as one fact, at the definitions that admission and the banks are judged by.
 
-use Rattle.std.specs.Prelude.{◌≡◌, ℕ, ◌+◌, ◌<◌, true, false, [], ◌∷◌, pos, negsuc, Some, Ok, Err, Result}
-use Rattle.stream.specs.Refusals.{number}
+use Rattle.std.specs.Prelude.{◌≡◌, ℕ, ◌+◌, ◌<◌, true, false, [], ◌∷◌, pos, negsuc, Some, Ok, Result}
+use Rattle.stream.specs.Refusals.{number, RefusedBy}
 use Rattle.stream.specs.declared.Phase.TheVariants.{Normal, Overrun}
 use Rattle.stream.specs.declared.Refusal.{Refusal}
-use Rattle.stream.specs.declared.Refusal.TheVariants.{HorizonTooFar, NotOpen}
+use Rattle.stream.specs.declared.Refusal.TheVariants.{HorizonTooFar}
 use Rattle.stream.specs.declared.Row.{Row}
 use Rattle.stream.specs.declared.Verdict.{Verdict}
 use Rattle.bank.specs.Accepting.{Accepted}
@@ -40,10 +40,10 @@ pub record Worked (lock preview : Row) : Type 0 where
   pub horizon_near : (b : Sporadic) → Pair (background 1 999) (background 1 1000) b → InReach sporadic b 999000
   pub horizon_far : (b : Sporadic) → Pair (background 1 1000) (background 1 1001) b → Refuses sporadic b HorizonTooFar × (number HorizonTooFar ≡ 10)
   -- a sporadic stream with gap 6 that was accepted is refused 5 ticks later, and accepted 6 ticks later
-  pub too_soon : (bank b c d : Sporadic) (answer : Result (Unit {0}) Refusal) → Pair lock preview bank → sporadic.accepts bank 1 b → Later sporadic 5 b c → Accepted sporadic c 1 answer d → answer ≡ Err NotOpen
+  pub too_soon : (bank b c d : Sporadic) (answer : Result (Unit {0}) Refusal) → Pair lock preview bank → sporadic.accepts bank 1 b → Later sporadic 5 b c → Accepted sporadic c 1 answer d → RefusedBy 17 answer
   pub a_gap_later : (bank b c d : Sporadic) (answer : Result (Unit {0}) Refusal) → Pair lock preview bank → sporadic.accepts bank 1 b → Later sporadic 6 b c → Accepted sporadic c 1 answer d → answer ≡ Ok tt
   -- on a raster with gap 6 and phase 2, begun at 4,294,967,296, it is first accepted at 4,294,967,300
-  pub off_raster : (bank b c d : Raster) (n : ℕ) (answer : Result (Unit {0}) Refusal) → rows (raster_states bank) ≡ lock ∷ [] → phases_in bank ≡ 2 ∷ [] → raster.begins bank 4294967296 b → Later raster n b c → 4294967296 + n < 4294967300 → Accepted raster c 1 answer d → answer ≡ Err NotOpen
+  pub off_raster : (bank b c d : Raster) (n : ℕ) (answer : Result (Unit {0}) Refusal) → rows (raster_states bank) ≡ lock ∷ [] → phases_in bank ≡ 2 ∷ [] → raster.begins bank 4294967296 b → Later raster n b c → 4294967296 + n < 4294967300 → Accepted raster c 1 answer d → RefusedBy 17 answer
   pub on_raster : (bank b c d : Raster) (n : ℕ) (answer : Result (Unit {0}) Refusal) → rows (raster_states bank) ≡ lock ∷ [] → phases_in bank ≡ 2 ∷ [] → raster.begins bank 4294967296 b → Later raster n b c → 4294967296 + n ≡ 4294967300 → Accepted raster c 1 answer d → answer ≡ Ok tt
   -- begun at 4,294,967,294 and both released, the deadlines are 4,294,967,296 and 4,294,967,300, and stream 1 is picked
   pub deadlines : (key Normal 1 (released lock 4294967294) ≡ (4294967296, 1)) × (key Normal 2 (released preview 4294967294) ≡ (4294967300, 2))

@@ -1,4 +1,5 @@
-use Rattle.std.proofs.Common.{◌≡◌, sym, refl, ap, ◌∙◌, subst, arith}
+use Rattle.std.proofs.Common.{◌≡◌, Err, sym, refl, ap, ◌∙◌, subst, arith}
+use Rattle.stream.specs.declared.Refusal.TheVariants.{MomentTooLate}
 use Rattle.demand.specs.Verdicts.{Decided}
 use Rattle.turns.specs.Steps.{Started, fresh}
 use Rattle.turns.specs.declared.State.{State}
@@ -9,8 +10,9 @@ pub returns-then-moment-gt-LAST_MOMENT : goal.returns-then-moment-gt-LAST_MOMENT
 returns-then-moment-gt-LAST_MOMENT g c =
     let k = g.B.Bank.kind in
     let late = c.if-moment-gt-LAST_MOMENT.true in
+    let verdict : c.new.result.verdict ≡ Err MomentTooLate = ap (λ (s : State). s.verdict) c.new.ensures in
     let started : Started k c.args.bank.now c.args.moment c.args.bank.now c.new.result = record {
-      late = λ _. (refl, c.new.ensures);
+      late = λ _. (refl, (MomentTooLate, verdict, refl), c.new.ensures ∙ ap (fresh c.args.moment) (sym verdict));
       begun = λ l. let z : ⊥ = omega arith in absurd z;
     } in
     record { started = started; promise = none_late k g.met.B.Bank.lawful c.args.bank.now c.args.moment c.args.bank.now c.new.result started }

@@ -57,6 +57,6 @@ returns g c =
     let opens : 0 < k.opening e.bank i 0 =
     ⊎_elim
     (λ (l : 0 < k.opening e.bank i 0). l)
-    (λ (l : k.opening e.bank i 0 ≤ 0). let refused = (c.accept.ensures.shut r found (omega arith)).0 in absurd (clash (ap is_ok (sym refused ∙ accepted))))
+    (λ (l : k.opening e.bank i 0 ≤ 0). let refused = (c.accept.ensures.shut r found (omega arith)).0 in absurd (clash (ap is_ok (sym refused.1 ∙ accepted))))
     (cases_lt 0 (k.opening e.bank i 0)) in
     (r, found, release_granted s i r (k.opening e.bank i 0) not_shut c.if-stream.false no_turn (ap (λ (w : Row). background w.class && in_overrun s.mode) (sym c.row-row.ensures) ∙ sym c.shuns.ensures ∙ c.if-shuns.false) (ap is_some (sym c.of.ensures.job) ∙ sym c.is_some.ensures ∙ c.if-is_some.false) opens, (c.accept.ensures.taken r found opens).1, same_job s i c.row-row.result r.row c.moment.result c.put.new.self c.row-row.ensures c.moment.ensures c.put.ensures)

@@ -1,14 +1,14 @@
-use Rattle.std.proofs.Common.{arith}
+use Rattle.std.proofs.Common.{refl, arith}
 use Rattle.table.proofs.Views.{raster_size}
 use Rattle.plan.specs.Plans.{sporadic_full, sporadic_disordered, sporadic_unfit, sporadic_added}
 use Rattle.plan.proofs.Placing.{handed_on}
 use Rattle.plan.proofs.tables.Tables.add_sporadic.Goals as goal
 
 pub returns-in_err-has_room : goal.returns-in_err-has_room
-returns-in_err-has_room c = rw (handed_on c.from_residual.result c.in_err-has_room.field-0.0 c.from_residual.ensures.1, c.in_err-has_room.ensures.0) (sporadic_full c.in_err-has_room.ensures.1)
+returns-in_err-has_room c = rw (handed_on c.from_residual.result c.in_err-has_room.field-0.0 c.from_residual.ensures.1) (sporadic_full c.in_err-has_room.ensures.1 c.in_err-has_room.ensures.0)
 
 pub returns-then-streams-gt0 : goal.returns-then-streams-gt0
-returns-then-streams-gt0 c = sporadic_disordered c.in_ok-has_room.ensures (omega (arith, raster_size c.args.self.now.raster))
+returns-then-streams-gt0 c = sporadic_disordered c.in_ok-has_room.ensures (omega (arith, raster_size c.args.self.now.raster)) refl
 
 pub returns-in_err-record : goal.returns-in_err-record
 returns-in_err-record c =
