@@ -44,7 +44,8 @@ extern "C" {
  *      9  no stream
  *     10  a horizon above 1,000,000
  *     11  a demand that exceeds a length of time
- *     -1  no memory for the tables; nothing is known of the plan then */
+ *
+ * It needs no memory of the heap, so there is no answer for want of it. */
 int64_t check(const uint8_t *text, size_t length);
 
 /* The longest text that replay reads, in bytes. */

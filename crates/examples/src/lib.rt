@@ -26,7 +26,7 @@ mod tests {
 
     #[test]
     fn demands_at_each_length(rt: HostRuntime) -> Result<(), Fail> {
-        let bank = bank_of_two(rt.alloc())?;
+        let bank = bank_of_two()?;
         let normal = [0u64, 0, 2, 2, 2, 2, 5];
         let overrun = [0u64, 0, 0, 0, 2, 3, 4];
         for (phase, demands) in [(Phase::Normal, normal), (Phase::Overrun, overrun)] {
@@ -52,7 +52,7 @@ mod tests {
 
     #[test]
     fn the_nearest_point_of_an_accepted_bank(rt: HostRuntime) -> Result<(), Fail> {
-        let verdict = admit(&bank_of_two(rt.alloc())?)?;
+        let verdict = admit(&bank_of_two()?)?;
         assert_eq!(rt; (verdict.horizon, verdict.lengths), (6, 7));
         assert_eq!(rt;
             verdict.point,
@@ -173,7 +173,7 @@ mod tests {
             ("(S L (1 0) (2 2) 2)\n(go 0)\n", 1),
         ];
         for (text, number) in cases {
-            assert_eq!(rt; check(rt.alloc(), text.as_bytes()), number, "{}", text);
+            assert_eq!(rt; check(text.as_bytes()), number, "{}", text);
         }
     }
 
@@ -222,7 +222,6 @@ mod tests {
         all_replay(&rt, rt.alloc(), &cases)
     }
 
-    // What memory is asked for is had: the tables of a plan, and the text of an answer.
     // What is told of a buffer of sevens with so much room, and the buffer then.
     fn in_room(
         heap: Global,
@@ -262,9 +261,8 @@ mod tests {
 
     #[test]
     fn a_plan_is_opened_and_told(rt: HostRuntime) -> Result<(), Fail> {
-        let tables = Tables::new(rt.alloc())?;
         let mut reader = Reader::new(b"(S L (1 0) (2 2) 2)\n(go 0)\n");
-        let verdict = open_plan(&mut reader, tables)?.verdict;
+        let verdict = open_plan(&mut reader, Tables::new())?.verdict;
         let mut answers = Answers::new(rt.alloc());
         answers.tell(Answer::Accepted(verdict))?;
         assert_eq!(rt; answers.lines.as_str(), "(accepted 2 3 (normal 1 1))\n");
@@ -273,7 +271,7 @@ mod tests {
 
     #[test]
     fn a_gap_between_releases(rt: HostRuntime) -> Result<(), Fail> {
-        let mut bank = bank_of_two(rt.alloc())?;
+        let mut bank = bank_of_two()?;
         bank.begin(0);
         assert_eq!(rt; bank.accept(1), Ok(()));
         for _ in 0..5 {
@@ -290,7 +288,7 @@ mod tests {
 
     #[test]
     fn where_a_bank_is_asked(rt: HostRuntime) -> Result<(), Fail> {
-        let bank = bank_of_two(rt.alloc())?;
+        let bank = bank_of_two()?;
         let cases = [
             (-65536i64, None),
             (-65535, Some(0u64)),
@@ -316,7 +314,7 @@ mod tests {
 
     #[test]
     fn the_thirty_third_stream(rt: HostRuntime) -> Result<(), Fail> {
-        let mut bank = full_table(rt.alloc())?;
+        let mut bank = full_table()?;
         assert_eq!(rt;
             bank.grow(Record::new(PREVIEW)?),
             Err(Refusal::TooManyStreams)
@@ -327,7 +325,7 @@ mod tests {
 
     #[test]
     fn a_raster_opens_at_its_phase(rt: HostRuntime) -> Result<(), Fail> {
-        let mut bank = Raster::new(rt.alloc())?;
+        let mut bank = Raster::new();
         assert_eq!(rt;
             bank.grow(Record::new(LOCK)?, 6),
             Err(Refusal::PhaseOutOfLimits)
@@ -344,8 +342,8 @@ mod tests {
         Ok(())
     }
 
-    fn full_table(heap: Global) -> Result<Sporadic, Fail> {
-        let mut bank = Sporadic::new(heap)?;
+    fn full_table() -> Result<Sporadic, Fail> {
+        let mut bank = Sporadic::new();
         for _ in 0..MOST_STREAMS {
             bank.grow(Record::new(PREVIEW)?)?;
         }
@@ -354,8 +352,8 @@ mod tests {
 
     #[test]
     fn joins_end_at_33_streams(rt: HostRuntime) -> Result<(), Fail> {
-        let two = Joined::new(full_table(rt.alloc())?, full_table(rt.alloc())?);
-        let mut bank = Joined::new(two, full_table(rt.alloc())?);
+        let two = Joined::new(full_table()?, full_table()?);
+        let mut bank = Joined::new(two, full_table()?);
         bank.begin(0);
         assert_eq!(rt; bank.streams(), 33);
         assert_eq!(rt; bank.accept(0), Err(Refusal::NoSuchStream));
@@ -401,7 +399,7 @@ mod tests {
 
     #[test]
     fn shorter_short_deadlines(rt: HostRuntime) -> Result<(), Fail> {
-        let mut bank = bank_of_two(rt.alloc())?;
+        let mut bank = bank_of_two()?;
         assert_eq!(rt; bank.shorten(0), Err(Shortfall::Factor));
         assert_eq!(rt; bank.shorten(1001), Err(Shortfall::Factor));
         assert_eq!(rt; bank.shorten(333), Err(Shortfall::Stream(1)));
@@ -412,7 +410,7 @@ mod tests {
 
     #[test]
     fn load_in_thousandths(rt: HostRuntime) -> Result<(), Fail> {
-        assert_eq!(rt; load(&bank_of_two(rt.alloc())?), 833);
+        assert_eq!(rt; load(&bank_of_two()?), 833);
         Ok(())
     }
 

@@ -4,14 +4,13 @@
 mod tests {
     use crate::plans::bank_of_two;
     use engine::{Engine, Report};
-    use std::alloc::Global;
     use std::test::Fail;
     use stream::Refusal;
     use table::Sporadic;
     use turns::{Counts, End, LAST_MOMENT, Settled};
 
-    fn started(heap: Global, moment: u64) -> Result<Engine<Sporadic>, Fail> {
-        Ok(Engine::start(bank_of_two(heap)?, moment))
+    fn started(moment: u64) -> Result<Engine<Sporadic>, Fail> {
+        Ok(Engine::start(bank_of_two()?, moment))
     }
 
     fn turn(engine: &mut Engine<Sporadic>, done: bool) -> Result<Settled, Refusal> {
@@ -21,7 +20,7 @@ mod tests {
 
     #[test]
     fn an_overrun_and_its_end(rt: HostRuntime) -> Result<(), Fail> {
-        let mut engine = started(rt.alloc(), 0)?;
+        let mut engine = started(0)?;
         engine.release(1)?;
         engine.release(2)?;
         assert_eq!(rt; engine.release(2), Err(Refusal::NotOpen));
@@ -53,7 +52,7 @@ mod tests {
 
     #[test]
     fn a_job_that_is_cut(rt: HostRuntime) -> Result<(), Fail> {
-        let mut engine = started(rt.alloc(), 0)?;
+        let mut engine = started(0)?;
         engine.release(2)?;
         assert_eq!(rt; turn(&mut engine, false)?, Settled::Ran(2, End::Going));
         assert_eq!(rt; turn(&mut engine, false)?, Settled::Ran(2, End::Going));
@@ -65,7 +64,7 @@ mod tests {
     // Finished on the last unit of its normal budget, a critical job begins no overrun.
     #[test]
     fn done_in_time(rt: HostRuntime) -> Result<(), Fail> {
-        let mut engine = started(rt.alloc(), 0)?;
+        let mut engine = started(0)?;
         engine.release(1)?;
         assert_eq!(rt; turn(&mut engine, false)?, Settled::Ran(1, End::Going));
         assert_eq!(rt; turn(&mut engine, true)?, Settled::Ran(1, End::Finished));
@@ -76,7 +75,7 @@ mod tests {
     // Deadlines past 32 bits: 4,294,967,296 goes before 4,294,967,300.
     #[test]
     fn the_nearer_deadline_first(rt: HostRuntime) -> Result<(), Fail> {
-        let mut engine = started(rt.alloc(), 4294967294)?;
+        let mut engine = started(4294967294)?;
         engine.release(2)?;
         engine.release(1)?;
         assert_eq!(rt; turn(&mut engine, true)?, Settled::Ran(1, End::Finished));
@@ -85,7 +84,7 @@ mod tests {
 
     #[test]
     fn the_last_moment(rt: HostRuntime) -> Result<(), Fail> {
-        let mut engine = started(rt.alloc(), LAST_MOMENT)?;
+        let mut engine = started(LAST_MOMENT)?;
         engine.release(1)?;
         let slip = engine.pick();
         let void = slip.refusal();
@@ -104,8 +103,8 @@ mod tests {
     // The engine's own record says whose turn it is, whichever slip is settled.
     #[test]
     fn slips_of_two_engines(rt: HostRuntime) -> Result<(), Fail> {
-        let mut one = started(rt.alloc(), 0)?;
-        let mut other = started(rt.alloc(), 0)?;
+        let mut one = started(0)?;
+        let mut other = started(0)?;
         let first = one.release(1);
         let second = other.release(2);
         let slip = one.pick();

@@ -51,7 +51,7 @@ fn next_case<'a>(container: &'a [u8]) -> Option<(Case<'a>, &'a [u8])>
 
 fn matches(heap: Global, case: &Case) -> Result<bool, AllocError> {
     let printed = replay(heap, case.text)?;
-    Ok(check(heap, case.text) == case.number && printed.as_bytes() == case.printed)
+    Ok(check(case.text) == case.number && printed.as_bytes() == case.printed)
 }
 
 fn main(rt: HostRuntime) -> anyhow::Result<()> {

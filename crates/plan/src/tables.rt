@@ -1,12 +1,11 @@
 // The streams of a plan, in the tables that its bank joins.
 
-ghost use Rattle.std.specs.Prelude.{◌≡◌, IfOk};
+ghost use Rattle.std.specs.Prelude.{◌≡◌};
 ghost use Rattle.stream.specs.Rooms.{RoomTold};
 ghost use Rattle.plan.specs.Plans.{AddedRaster, AddedSporadic, no_rows, rows_in, size, tables_of};
 
 use bank::Bank;
 use join::Joined;
-use std::alloc::{AllocError, Global};
 use stream::{Record, Refusal, Row, room_for_more};
 use table::{Raster, Sporadic};
 
@@ -21,12 +20,15 @@ pub struct Tables {
 }
 
 impl Tables {
-    pub fn new(heap: Global) -> Result<Tables, AllocError>
-        ensures { IfOk result (λ t. rows_in t ≡ no_rows) }
+    // Kept out of line, where the compiler copies the tables less often on their way (docs/SPEED.md).
+    #[inline(never)]
+    pub fn new() -> Tables
+        ensures { rows_in result ≡ no_rows }
     {
-        let sporadic = Sporadic::new(heap)?;
-        let raster = Raster::new(heap)?;
-        Ok(Tables { sporadic, raster })
+        Tables {
+            sporadic: Sporadic::new(),
+            raster: Raster::new(),
+        }
     }
 
     pub fn into_bank(self) -> PlanBank

@@ -1,6 +1,6 @@
 -- What check answers to a plan of stream lines alone.
 
-use Rattle.std.specs.Prelude.{◌≡◌, ℕ, ◌⊎◌, List, ℤ, pos, neg_ℤ, Some, None, Ok, Err, Option, Result}
+use Rattle.std.specs.Prelude.{◌≡◌, ℕ, List, ℤ, pos, Some, None, Ok, Err, Option, Result}
 use Rattle.stream.specs.Refusals.{number}
 use Rattle.stream.specs.declared.Fault.{Fault}
 use Rattle.stream.specs.declared.Refusal.{Refusal}
@@ -26,6 +26,6 @@ abbrev pub told : Result Verdict Refusal → ℤ
 told (Ok verdict) = pos 0
 told (Err e) = pos (number e)
 
--- −1 for want of memory, else what is true of the plan
+-- what is told is what is found of the text
 abbrev pub Checked : List ℕ → ℤ → Type 0
-Checked text r = (r ≡ neg_ℤ (pos 1)) ⊎ ((answer : Result Verdict Refusal) × Found text answer × (r ≡ told answer))
+Checked text r = (answer : Result Verdict Refusal) × Found text answer × (r ≡ told answer)

@@ -5,17 +5,16 @@ ghost use Rattle.script.specs.Replays.{Replayed};
 
 use crate::script::run_script;
 use plan::{Answers, Tables, open_plan};
-use std::alloc::{AllocError, Global};
+use std::alloc::AllocError;
 use text::{Answer, Reader};
 
 // Opens the plan of a text and runs the script after it.
-pub(crate) fn answer_to(heap: Global, text: &[u8], answers: &mut Answers) -> Result<(), AllocError>
+pub(crate) fn answer_to(text: &[u8], answers: &mut Answers) -> Result<(), AllocError>
     ensures { OnOk result ((string_bytes answers.old.lines ≡ [] → Replayed text.now (string_bytes answers.new.lines))) }
 {
-    let tables = Tables::new(heap)?;
     let mut reader = Reader::new(text);
     // A fault is told and not carried, so each arm has its own to do.
-    match open_plan(&mut reader, tables) {
+    match open_plan(&mut reader, Tables::new()) {
         Err(fault) => answers.tell(Answer::Refused(fault)),
         Ok(opening) => {
             answers.tell(Answer::Accepted(opening.verdict))?;

@@ -4,7 +4,7 @@ ghost use Rattle.std.specs.Prelude.{◌≡◌, ◌≤◌, length};
 ghost use Rattle.script.specs.Buffers.{Filled, room_for, unwritten_number};
 ghost use Rattle.script.specs.declared.buffer.Unwritten.TheVariants.{NoMemory};
 
-use crate::{NO_MEMORY, replay, too_long};
+use crate::{replay, too_long};
 use std::alloc::{AllocError, Global};
 
 // No answer has more bytes than this in its line.
@@ -60,7 +60,7 @@ impl From<Unwritten> for i64 {
         match why {
             Unwritten::TextTooLong => -22,
             Unwritten::BufferTooShort => -21,
-            Unwritten::NoMemory => NO_MEMORY,
+            Unwritten::NoMemory => -1,
         }
     }
 }

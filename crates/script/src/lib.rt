@@ -13,12 +13,9 @@ mod verdicts;
 
 use answers::answer_to;
 pub use buffer::{Unwritten, replay_into};
-use plan::{Answers, Tables};
+use plan::Answers;
 use std::alloc::{AllocError, Global};
 use verdicts::{check_plan, number_of};
-
-// What C is told for want of memory: a number below every refusal, and so check answers a signed one.
-const NO_MEMORY: i64 = -1;
 
 // The longest text that is replayed, in bytes.
 pub const LONGEST_TEXT: u64 = 65536;
@@ -36,14 +33,14 @@ pub fn replay(heap: Global, text: &[u8]) -> Result<String, AllocError>
 {
     let mut answers = Answers::new(heap);
     if !too_long(text) {
-        answer_to(heap, text, &mut answers)?;
+        answer_to(text, &mut answers)?;
     }
     Ok(answers.lines)
 }
 
-// Whether a plan of stream lines alone may run: 0 if it may, else the number of its refusal; -1 for want of memory.
-pub fn check(heap: Global, text: &[u8]) -> i64
+// Whether a plan of stream lines alone may run: 0 if it may, else the number of its refusal.
+pub fn check(text: &[u8]) -> i64
     ensures { Checked text.now result }
 {
-    Tables::new(heap).map_or(NO_MEMORY, |tables| number_of(check_plan(text, tables)))
+    number_of(check_plan(text))
 }

@@ -7,12 +7,12 @@ ghost use Rattle.script.specs.Checks.{Checked};
 
 use std::alloc::Global;
 
-// Whether a plan of stream lines alone may run: 0 if it may, else the number of its refusal; -1 for want of memory.
+// Whether a plan of stream lines alone may run: 0 if it may, else the number of its refusal.
 #[unsafe(no_mangle)]
-pub extern "C" fn check(heap: Global, text: &[u8]) -> i64
+pub extern "C" fn check(text: &[u8]) -> i64
     ensures { Checked text.now result }
 {
-    script::check(heap, text)
+    script::check(text)
 }
 
 // Writes what a plan and its script are answered to the front of a buffer: how many bytes, or a number below 0 that says why nothing was written.

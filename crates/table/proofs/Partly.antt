@@ -1,7 +1,7 @@
 -- A loop that changes one item of a list after another.
 
-use Rattle.std.proofs.Common.{◌≡◌, ℕ, ◌+◌, ◌-◌, ◌<◌, ◌≤◌, List, ◌++◌, length, take, drop, set, Some, sym, ap, ◌∙◌, subst, ⊎_elim, arith, rules}
-use Rattle.std.proofs.lemmas.List.{drop_all, length-set, take_all}
+use Rattle.std.proofs.Common.{◌≡◌, ℕ, ◌+◌, ◌-◌, ◌<◌, ◌≤◌, List, length, set, Some, sym, ap, ◌∙◌, subst, ⊎_elim, arith}
+use Rattle.std.proofs.lemmas.List.{length-set}
 use Rattle.std.proofs.lemmas.Bool.{cases_eq}
 use Rattle.std.specs.List.{slice_get}
 use Rattle.table.specs.Tables.{Rewaited, state_of, waiting}
@@ -40,10 +40,6 @@ partly_all R i xs ys part all j s is =
     let at = state_numbered xs j s is in
     let done = part.done (j - 1) s (omega arith) (sym (state_at xs j at.0) ∙ is) in
     (done.0, state_at ys j at.0 ∙ done.1, done.2)
-
--- the items that a loop over a vector leaves in it
-pub items_left : {X : Type 0} (n : ℕ) (xs ys : List X) → length xs ≡ n → length ys ≡ n → take n (ys ++ drop (length ys) xs) ≡ ys
-items_left n xs ys was is = search (rules, take_all, drop_all)
 
 -- a loop that gives each state a wait of which W holds
 abbrev pub Rewaits : {S : Type 0} → (S → ℕ → Type 0) → State S → State S → Type 0

@@ -7,13 +7,17 @@ use Rattle.std.proofs.lemmas.Option.{get_or_from_slice_get, slice_get_within}
 use Rattle.std.specs.List.{position_or_len, slice_get}
 use Rattle.std.specs.Option.{option_map}
 use Rattle.stream.specs.declared.limits.Record.{Record}
-use Rattle.table.specs.Shortening.{shortened, too_short, first_short, AllShortened}
+use Rattle.table.specs.Shortening.{shortened, too_short, first_short, shortfall_of, AllShortened}
 use Rattle.table.specs.declared.shared.State.{State}
-use Rattle.table.specs.declared.shortening.Shortfall.TheVariants.{Stream}
+use Rattle.table.specs.declared.shortening.Shortfall.TheVariants.{Factor, Stream}
 use Rattle.table.proofs.Partly.{Partly, partly_all}
 use Rattle.table.specs.TablesLemmas.{none_not_some}
 
 module _ {S : Type 0} (recorded : S → Record) where
+  -- a factor outside its limits is told before any stream
+  pub factor_outside : (factor : ℕ) (xs : List (State S)) → (1 ≤ factor → factor ≤ 1000 → ⊥) → shortfall_of recorded factor xs ≡ Some Factor
+  factor_outside factor xs outside = grind arith
+
   -- the short deadline leaves room for the budget
   abbrev pub Enough : ℕ → S → Type 0
   Enough factor s = (recorded s).row.budget ≤ (shortened factor (recorded s).row).short

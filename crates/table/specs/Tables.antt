@@ -1,6 +1,6 @@
 -- A table: the states of streams 1, 2 and so on, each a stream with the ticks for which it stays closed. What a stream is, is left open but for its record.
 
-use Rattle.std.specs.Prelude.{◌≡◌, ℕ, ◌-◌, cond, List, length, Some, None, vec_items, vec_capacity, Option, ◌==◌, slice_set}
+use Rattle.std.specs.Prelude.{◌≡◌, ℕ, ◌-◌, cond, List, length, Some, None, Option, ◌==◌, slice_set}
 use Rattle.std.specs.Option.{option_map}
 use Rattle.std.specs.List.{slice_get}
 use Rattle.stream.specs.declared.limits.Record.{Record}
@@ -13,11 +13,11 @@ abbrev pub RecordState : Type 0
 RecordState = State Record
 
 abbrev pub states_of : {S : Type 0} → Table S → List (State S)
-states_of t = vec_items t.states
+states_of t = t.states.items
 
--- as many streams, and room for as many
+-- as many streams
 abbrev pub SameSize : {S : Type 0} → Table S → Table S → Type 0
-SameSize t u = (length (states_of u) ≡ length (states_of t)) × (vec_capacity u.states ≡ vec_capacity t.states)
+SameSize t u = length (states_of u) ≡ length (states_of t)
 
 -- stream i, if it exists
 abbrev pub state_of : {S : Type 0} → List (State S) → ℕ → Option (State S)

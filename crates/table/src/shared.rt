@@ -1,6 +1,6 @@
 // The table that the banks of this crate share. It keeps no invariant, so that its methods may change one state at a time.
 
-ghost use Rattle.std.specs.Prelude.{◌≡◌, ◌<◌, ◌≤◌, [], ◌∷◌, ◌++◌, map, length, position, IfOk, IfSome, Some, None, vec_capacity, slice_set};
+ghost use Rattle.std.specs.Prelude.{◌≡◌, ◌<◌, ◌≤◌, [], ◌∷◌, ◌++◌, map, length, position, IfSome, Some, None, slice_set};
 ghost use Rattle.bank.specs.Accepting.{Accepted};
 ghost use Rattle.bank.specs.Questions.{asked, told};
 ghost use Rattle.std.specs.Option.{option_map};
@@ -13,15 +13,25 @@ ghost use Rattle.table.specs.Waits.{after};
 
 use crate::shortening::{Shortfall, Thousandths};
 use crate::timed::Timed;
+use arrayvec::ArrayVec;
 use bank::Question;
-use std::alloc::{AllocError, Global};
-use stream::Refusal;
+use stream::{MOST_STREAMS, Refusal};
 
 // A stream and how many ticks it stays closed.
 #[derive(Clone, Copy)]
 pub(crate) struct State<S> {
     pub(crate) stream: S,
     pub(crate) wait: u64,
+}
+
+// A place that no stream has yet, as an `ArrayVec` wants it.
+impl<S: Timed> Default for State<S> {
+    fn default() -> State<S> {
+        State {
+            stream: S::blank(),
+            wait: 0,
+        }
+    }
 }
 
 impl<S: Timed> State<S> {
@@ -38,18 +48,19 @@ impl<S: Timed> State<S> {
     }
 }
 
-// The states of streams 1, 2 and so on. It keeps no invariant, which is a rule of this project; so that an act keeps its size is said of each of the five acts, and `Timetable` keeps the bounds by it.
+// The states of streams 1, 2 and so on, with a place for each that there may be, so that nothing allocates. It keeps no invariant, which is a rule of this project; so that an act keeps its size is said of each of the five acts, and `Timetable` keeps its bound by it.
 #[derive(Drop)]
 pub(crate) struct Table<S> {
-    states: Vec<State<S>>,
+    states: ArrayVec<State<S>, MOST_STREAMS>,
 }
 
 impl<S: Timed> Table<S> {
-    pub(crate) fn with_room(heap: Global, room: usize) -> Result<Table<S>, AllocError>
-        ensures { IfOk result (λ t. (states_of t ≡ []) × (room ≤ vec_capacity t.states)) }
+    pub(crate) fn new() -> Table<S>
+        ensures { states_of result ≡ [] }
     {
-        let states = Vec::with_capacity(heap, room)?;
-        Ok(Table { states })
+        Table {
+            states: ArrayVec::new(),
+        }
     }
 
     pub(crate) fn streams(&self) -> u64
@@ -67,11 +78,10 @@ impl<S: Timed> Table<S> {
 
     // Adds a stream that is open at once.
     pub(crate) fn push(&mut self, stream: S)
-        requires { length (states_of self.old) < vec_capacity self.old.states }
-        ensures states { states_of self.new ≡ states_of self.old ++ fresh stream ∷ [] }
-        ensures room { vec_capacity self.new.states ≡ vec_capacity self.old.states }
+        requires { length (states_of self.old) < 32 }
+        ensures { states_of self.new ≡ states_of self.old ++ fresh stream ∷ [] }
     {
-        self.states.push_reserved(State { stream, wait: 0 });
+        self.states.push(State { stream, wait: 0 });
     }
 
     // The one way to change the wait of a single stream. Places are counted from 0.
@@ -121,7 +131,7 @@ impl<S: Timed> Table<S> {
     // The place of the first stream whose short deadline would be below its budget.
     fn first_short(&self, factor: Thousandths) -> Option<usize>
         ensures place { result ≡ position (λ s. too_short factor.count (S.recorded s.stream).row) (states_of self.now) }
-        ensures bound { IfSome result (λ at. at < length (states_of self.now)) }
+        ensures bound { IfSome result (λ at. at < 32) }
     {
         self.states
             .iter()

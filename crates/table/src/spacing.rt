@@ -4,7 +4,17 @@ ghost use Rattle.std.specs.Prelude.{◌≡◌, ◌-◌};
 ghost use Rattle.table.specs.WaitsLemmas.{tick_opens_no_more};
 
 use crate::timed::Timed;
-use stream::Record;
+use stream::{Class, Record, Row};
+
+// Any row that keeps the limits would do.
+const BLANK: Row = Row {
+    class: Class::Background,
+    budget: 1,
+    certain: 0,
+    short: 1,
+    deadline: 1,
+    gap: 1,
+};
 
 // Such a stream is its record: it opens at once, and each tick takes one off its wait.
 impl Timed for Record {
@@ -21,6 +31,10 @@ impl Timed for Record {
     const LETTER: char = 'S';
 
     ghost opens_no_more = { λ r wait m. tick_opens_no_more wait r.row.gap m r.within.0.0 };
+
+    fn blank() -> Record {
+        Record::new(BLANK).unwrap()
+    }
 
     fn record(&self) -> Record {
         *self

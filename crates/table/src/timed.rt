@@ -24,6 +24,9 @@ pub trait Timed: Copy {
     // The letter of the banks of such streams.
     const LETTER: char;
 
+    // Any such stream, for the places of a table that no stream has yet.
+    fn blank() -> Self;
+
     fn record(&self) -> Record
         ensures { result ≡ recorded self.now };
 

@@ -2,8 +2,6 @@
 
 use Rattle.std.proofs.Common.{◌≡◌, ℕ, zero, suc, ◌+◌, ◌-◌, ◌<◌, ◌≤◌, Bool, true, false, cond, ◌&&◌, eqb, List, [], ◌∷◌, ◌++◌, map, length, get_or, set, replicate, pos, is_some, Some, None, Ok, Err, Option, sym, refl, ap, ◌∙◌, subst, arith}
 use borrow.Author.Tests.{clash}
-use Rattle.std.proofs.lemmas.List.{with_items_is}
-use Rattle.std.specs.Vec.{with_items}
 use Rattle.stream.specs.declared.Phase.{Phase}
 use Rattle.stream.specs.declared.Phase.TheVariants.{Normal, Overrun}
 use Rattle.stream.specs.declared.Refusal.TheVariants.{BackgroundInOverrun}
@@ -82,10 +80,7 @@ turn_taken c d s t i done how free next ticks told is = step {c = c} {t = with_t
 
 -- a bank with other states, as many
 with_states : (b : Sporadic) (xs : List Wait) → length xs ≡ length (states_in b) → (c : Sporadic) × (states_in c ≡ xs)
-with_states b xs size =
-    let items : (with_items b.table.states xs).items ≡ xs = with_items_is b.table.states xs (size ∙ sym b.table.states.ok.0) in
-    let few = b.few in
-    (record { table = record { states = with_items b.table.states xs }; few = subst (λ (ys : List Wait). length ys ≤ 32) (sym items) (omega arith); room = b.room }, items)
+with_states b xs size = (record { table = record { states = record { items = xs } }; few = omega (arith, b.few) }, refl)
 
 module _ (b : Sporadic) (x y : Record) (lock_row : x.row ≡ critical 4 2) (preview_row : y.row ≡ background 3 6) (is : states_in b ≡ record { stream = x; wait = 0 } ∷ record { stream = y; wait = 0 } ∷ []) where
   abbrev waits : ℕ → ℕ → List Wait

@@ -2,7 +2,7 @@
 
 #![tactic(auto)]
 
-ghost use Rattle.std.specs.Prelude.{◌≡◌, [], ◌∷◌, IfOk};
+ghost use Rattle.std.specs.Prelude.{◌≡◌, [], ◌∷◌};
 ghost use Rattle.table.specs.Sporadics.{states_in};
 ghost use Rattle.table.specs.Tables.{fresh};
 ghost use Rattle.worked.specs.Lives.{Lived};
@@ -10,7 +10,6 @@ ghost use Rattle.worked.specs.Plans.{JudgedPair};
 ghost use Rattle.worked.specs.Worked.{Worked};
 
 use demand::admit;
-use std::alloc::{AllocError, Global};
 use stream::{Class, Record, Refusal, Row, Verdict};
 use table::Sporadic;
 
@@ -43,23 +42,18 @@ pub fn worked_plans() -> (Row, Row)
 }
 
 // A new bank has room for both, so neither is refused.
-fn bank_of_two(heap: Global, first: Record, second: Record) -> Result<Sporadic, AllocError>
-    ensures { IfOk result (λ b. states_in b ≡ fresh first ∷ fresh second ∷ []) }
+fn bank_of_two(first: Record, second: Record) -> Sporadic
+    ensures { states_in result ≡ fresh first ∷ fresh second ∷ [] }
 {
-    let mut bank = Sporadic::new(heap)?;
+    let mut bank = Sporadic::new();
     let _ = bank.grow(first);
     let _ = bank.grow(second);
-    Ok(bank)
+    bank
 }
 
 // The verdict on a bank of two sporadic streams; for the rows of the worked plans it is the one told there, since no other answer is right.
-pub fn admit_two(
-    heap: Global,
-    first: Record,
-    second: Record,
-) -> Result<Result<Verdict, Refusal>, AllocError>
-    ensures { IfOk result (λ answer. JudgedPair first.row second.row answer) }
+pub fn admit_two(first: Record, second: Record) -> Result<Verdict, Refusal>
+    ensures { JudgedPair first.row second.row result }
 {
-    let bank = bank_of_two(heap, first, second)?;
-    Ok(admit(&bank))
+    admit(&bank_of_two(first, second))
 }

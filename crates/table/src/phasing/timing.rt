@@ -40,6 +40,13 @@ impl Timed for OnRaster {
 
     ghost opens_no_more = { λ s wait m. turn_opens_no_more wait s.record.row.gap m s.record.within.0.0 };
 
+    fn blank() -> OnRaster {
+        OnRaster {
+            record: Record::blank(),
+            phase: 0,
+        }
+    }
+
     fn record(&self) -> Record {
         self.record
     }

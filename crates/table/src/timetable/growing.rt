@@ -1,6 +1,6 @@
 // Making and growing a timetable, and shortening its streams.
 
-ghost use Rattle.std.specs.Prelude.{◌≡◌, [], length, IfOk};
+ghost use Rattle.std.specs.Prelude.{◌≡◌, [], length};
 ghost use Rattle.stream.specs.Rooms.{RoomTold};
 ghost use Rattle.table.specs.Growing.{Grown, GrownOn};
 ghost use Rattle.table.specs.Tables.{states_of};
@@ -11,15 +11,15 @@ use crate::shared::Table;
 use crate::shortening::{Shortfall, Thousandths};
 use crate::timed::Timed;
 use crate::timetable::Timetable;
-use std::alloc::{AllocError, Global};
-use stream::{MOST_STREAMS, Record, Refusal, room_for_more};
+use stream::{Record, Refusal, room_for_more};
 
 impl<S: Timed> Timetable<S> {
-    pub fn new(heap: Global) -> Result<Timetable<S>, AllocError>
-        ensures { IfOk result (λ b. states_of b.table ≡ []) }
+    pub fn new() -> Timetable<S>
+        ensures { states_of result.table ≡ [] }
     {
-        let table = Table::with_room(heap, MOST_STREAMS)?;
-        Ok(Timetable { table })
+        Timetable {
+            table: Table::new(),
+        }
     }
 
     // Whether a stream more has a place.

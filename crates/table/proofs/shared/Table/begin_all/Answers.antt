@@ -1,6 +1,7 @@
 use Rattle.std.proofs.Common.{◌<◌, length, get_or, refl, arith}
 use Rattle.std.proofs.lemmas.Option.{slice_get-get_or}
-use Rattle.table.proofs.Partly.{Rewaits, items_left, partly_more, partly_rewaited}
+use Rattle.arrayvec.proofs.ArrayVecLemmas.{items-with_items}
+use Rattle.table.proofs.Partly.{Rewaits, partly_more, partly_rewaited}
 use Rattle.table.proofs.shared.Table.begin_all.Goals as goal
 
 pub loop-state-preserved : goal.loop-state-preserved
@@ -16,5 +17,5 @@ pub returns-clause-states : goal.returns-clause-states
 returns-clause-states g c =
     let vec = c.args.self.now.states in
     let items = c.loop-state.state-items in
-    let rewaited = partly_rewaited (g.S.Timed.first_wait c.args.moment) c.loop-state.state-index _ items c.loop-state.invariant c.loop-state-test.false in
-    rw (items_left vec.len vec.items items (omega arith) (omega arith)) (rw c.deref_mut-state-items.ensures.value at rewaited)
+    let rewaited = rw c.deref_mut-state-items.ensures.value at (partly_rewaited (g.S.Timed.first_wait c.args.moment) c.loop-state.state-index _ items c.loop-state.invariant c.loop-state-test.false) in
+    rw (items-with_items vec items rewaited.size) rewaited

@@ -2,7 +2,8 @@ use Rattle.std.proofs.Common.{◌≡◌, ◌<◌, length, get_or, Some, None, sy
 use Rattle.std.proofs.lemmas.Option.{slice_get-get_or}
 use Rattle.std.specs.List.{slice_get}
 use Rattle.table.specs.Shortening.{first_short, shortened}
-use Rattle.table.proofs.Partly.{items_left, partly_more}
+use Rattle.arrayvec.proofs.ArrayVecLemmas.{items-with_items}
+use Rattle.table.proofs.Partly.{partly_more}
 use Rattle.table.proofs.Shorts.{Enough, Shortens, all_shortened, none_falls_short}
 use Rattle.table.proofs.shared.Table.shorten_all.Goals as goal
 
@@ -26,5 +27,5 @@ pub returns-clause-states : goal.returns-clause-states
 returns-clause-states g c =
     let vec = c.args.self.now.states in
     let items = c.loop-state.state-items in
-    let all = all_shortened g.S.Timed.recorded g.S.Timed.alike c.args.factor.count c.loop-state.state-index _ items c.loop-state.invariant c.loop-state-test.false in
-    rw (items_left vec.len vec.items items (omega arith) (omega arith)) (rw c.deref_mut-state-items.ensures.value at all)
+    let all = rw c.deref_mut-state-items.ensures.value at (all_shortened g.S.Timed.recorded g.S.Timed.alike c.args.factor.count c.loop-state.state-index _ items c.loop-state.invariant c.loop-state-test.false) in
+    rw (items-with_items vec items all.size) all
