@@ -1,7 +1,7 @@
 -- Over any run of acts from begin on, the releases of a stream accepted within m + 1 moments are at most its opening at m, and so at most its ceiling.
 
 use Rattle.std.proofs.Common.{◌≡◌, ℕ, ◌+◌, ◌-◌, ◌<◌, ◌≤◌, Bool, true, false, cond, eqb, List, [], ◌∷◌, ℤ, pos, negsuc, Some, None, Option, sym, refl, ap, ◌∙◌, subst, ⊎_elim, arith, eq-eqb, ne_eqb, le-leb}
-use Rattle.std.proofs.lemmas.Bool.{cases_eq}
+use Rattle.std.proofs.lemmas.Bool.{cases_eq, cases_lt, lt-leb}
 use Rattle.stream.specs.declared.limits.Record.{Record}
 use Rattle.bank.specs.Kinds.{Kind}
 use Rattle.bank.specs.Laws.{Laws, Same}
@@ -85,26 +85,34 @@ asked_spanned z n h none some =
     ap asked (some p) ∙ ap (λ (t : Bool). cond t (At (n - 1)) Outside) (le-leb (n - 1) 1000000 (omega arith)) ∙ sym (spanned_some n p h))
     (cases_eq n 0)
 
--- what a bank tells of so many moments is told at the last of them, of a stream that exists
-module _ (f : ℕ → ℕ) (n most : ℕ) (h : n ≤ 1000001) where
-  told_at : (r : Record) → 0 < n → told (Some r) f (spanned n) ≡ Some most → f (n - 1) ≡ most
-  told_at r some t =
-      let tells : Some (f (n - 1)) ≡ Some most = sym (ap (told (Some r) f) (spanned_some n some h)) ∙ t in
-      cc
+spanned_far : (n : ℕ) → 1000001 < n → spanned n ≡ Outside
+spanned_far n h = ap (λ (t : Bool). cond t Before (asked (pos (n - 1)))) (ne_eqb n 0 (λ e. omega arith)) ∙ ap (λ (t : Bool). cond t (At (n - 1)) Outside) (lt-leb (n - 1) 1000000 (omega arith))
 
-  told_absent : {X : Type 0} → told None f (spanned n) ≡ Some most → X
-  told_absent t = let z : ◌≡◌ {A = ℕ} 0 1 = cc in absurd (let w : ⊥ = omega arith in w)
+-- what a bank tells of so many moments is told at the last of them, of a stream that exists
+module _ (f : ℕ → ℕ) (n most : ℕ) where
+  nothing_told : {X : Type 0} → None ≡ Some most → X
+  nothing_told t = let z : ◌≡◌ {A = ℕ} 0 1 = cc in absurd (let w : ⊥ = omega arith in w)
+
+  told_at : (o : Option Record) → 0 < n → told o f (spanned n) ≡ Some most → (r : Record) × (o ≡ Some r) × (f (n - 1) ≡ most)
+  told_at None some t = nothing_told t
+  told_at (Some r) some t =
+      ⊎_elim
+      (λ (far : 1000001 < n). nothing_told (sym (ap (told (Some r) f) (spanned_far n far)) ∙ t))
+      (λ (near : n ≤ 1000001).
+      let tells : Some (f (n - 1)) ≡ Some most = sym (ap (told (Some r) f) (spanned_some n some near)) ∙ t in
+      (r, refl, cc))
+      (cases_lt 1000001 n)
 
 -- it bounds the releases accepted within them
-module _ {S : Type 0} (k : Kind S) (l : Laws k) (b : S) (i n most : ℕ) (h : n ≤ 1000001) where
-  pub told_bounds : (o : Option Record) → k.records b i ≡ o → told o (k.ceiling b i) (spanned n) ≡ Some most → AtMost k b i n most
-  told_bounds None e t = told_absent (k.ceiling b i) n most h t
-  told_bounds (Some r) e t = λ moment begun c d before window g run runs short.
+module _ {S : Type 0} (k : Kind S) (l : Laws k) (b : S) (i n most : ℕ) where
+  pub told_bounds : told (k.records b i) (k.ceiling b i) (spanned n) ≡ Some most → AtMost k b i n most
+  told_bounds t = λ moment begun c d before window g run runs short.
       let some = some_moment window in
-      omega (arith, told_at (k.ceiling b i) n most h r (omega arith) t, releases_within_ceiling k l b i r (n - 1) e moment begun c d before window g run runs (omega arith))
+      let (r, found, is) = told_at (k.ceiling b i) n most (k.records b i) (omega arith) t in
+      omega (arith, is, releases_within_ceiling k l b i r (n - 1) found moment begun c d before window g run runs (omega arith))
 
-  pub told_opens : (o : Option Record) → k.records b i ≡ o → told o (k.opening b i) (spanned n) ≡ Some most → AtMostToCome k b i n most
-  told_opens None e t = told_absent (k.opening b i) n most h t
-  told_opens (Some r) e t = λ c window begun runs short.
+  pub told_opens : told (k.records b i) (k.opening b i) (spanned n) ≡ Some most → AtMostToCome k b i n most
+  told_opens t = λ c window begun runs short.
       let some = some_moment window in
-      omega (arith, told_at (k.opening b i) n most h r (omega arith) t, releases_opened k l i r (n - 1) begun e runs (omega arith))
+      let (r, found, is) = told_at (k.opening b i) n most (k.records b i) (omega arith) t in
+      omega (arith, is, releases_opened k l i r (n - 1) begun found runs (omega arith))

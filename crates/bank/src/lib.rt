@@ -95,6 +95,7 @@ fn last_of(moments: u64) -> Option<i64>
 }
 
 // The most releases of a stream that can be accepted in so many consecutive moments, whatever the acts from begin on.
+#[tactic(auto, using(crate::proofs::Windows::told_bounds))]
 pub fn most_accepted<B: Bank>(bank: &B, stream: u64, moments: u64) -> Option<u64>
     ensures value { result ≡ told (B.kind.records bank.now stream) (B.kind.ceiling bank.now stream) (spanned moments) }
     ensures bound { (most : ℕ) → result ≡ Some most → AtMost B.kind bank.now stream moments most }
@@ -103,6 +104,7 @@ pub fn most_accepted<B: Bank>(bank: &B, stream: u64, moments: u64) -> Option<u64
 }
 
 // The most releases of a stream that can still be accepted in so many moments from this one on, whatever the acts.
+#[tactic(auto, using(crate::proofs::Windows::told_opens))]
 pub fn most_to_come<B: Bank>(bank: &B, stream: u64, moments: u64) -> Option<u64>
     ensures value { result ≡ told (B.kind.records bank.now stream) (B.kind.opening bank.now stream) (spanned moments) }
     ensures bound { (most : ℕ) → result ≡ Some most → AtMostToCome B.kind bank.now stream moments most }

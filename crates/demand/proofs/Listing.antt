@@ -13,7 +13,7 @@ use Rattle.bank.specs.Questions.{asked, told}
 use Rattle.bank.specs.declared.Question.TheVariants.{Outside, At}
 use Rattle.demand.specs.Horizons.{Common, Horizon}
 use Rattle.demand.specs.Listing.{row_of, Listed}
-use Rattle.demand.specs.Multiples.{Multiple, LeastMultiple}
+use Rattle.demand.proofs.Multiples.{Multiple, LeastMultiple}
 
 pub listed_record : (found : Option Record) (row : Row) → row_of found ≡ Some row → (r : Record) × (found ≡ Some r) × (r.row ≡ row)
 listed_record None row e = cc

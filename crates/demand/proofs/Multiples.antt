@@ -6,7 +6,16 @@ use native.Mathlib.Nat.{mod-add-div', dvd-mul_left_of_dvd, dvd_of_mod-eq-zero, m
 use Rattle.std.proofs.lemmas.Bool.{cases_eq, cases_lt}
 use Rattle.stream.specs.declared.limits.Record.{Record}
 use Rattle.bank.specs.Kinds.{Kind}
-use Rattle.demand.specs.Multiples.{Multiple, LeastMultiple, NextMultiple}
+use Rattle.demand.specs.Multiples.{NextMultiple}
+
+-- m is a multiple of the gaps of the streams below n
+pub record Multiple {S : Type 0} (k : Kind S) (b : S) (n m : ℕ) : Type 0 where
+  pub some : 1 ≤ m
+  pub divided : (i : ℕ) (r : Record) → i < n → k.records b i ≡ Some r → m % r.row.gap ≡ 0
+
+pub record LeastMultiple {S : Type 0} (k : Kind S) (b : S) (n h : ℕ) : Type 0 where
+  pub multiple : Multiple k b n h
+  pub least : (m : ℕ) → Multiple k b n m → h ≤ m
 
 module _ {S : Type 0} (k : Kind S) (b : S) where
   multiple_fewer : (n p m : ℕ) → p ≤ n → Multiple k b n m → Multiple k b p m

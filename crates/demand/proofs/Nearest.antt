@@ -11,7 +11,12 @@ use Rattle.bank.specs.Kinds.{Kind}
 use Rattle.least.specs.Firsts.{FirstLeast}
 use Rattle.least.specs.Orders.{lexical, by_margin, by_length, by_phase, point_below}
 use Rattle.least.specs.Rankings.{ranks_points}
-use Rattle.demand.specs.Verdicts.{point_at, Nearest, NearestSoFar, candidates}
+use Rattle.demand.specs.Verdicts.{point_at, Nearest, candidates}
+
+-- the nearest point of lengths 1 to t, if there is one
+abbrev pub NearestSoFar : {S : Type 0} → Kind S → S → ℕ → Option Point → Type 0
+NearestSoFar k b t None = t ≡ 0
+NearestSoFar k b t (Some point) = Nearest k b t point
 
 -- a point of a length from 1 to t
 pub record Point_upto {S : Type 0} (k : Kind S) (b : S) (t : ℕ) (p : Point) : Type 0 where

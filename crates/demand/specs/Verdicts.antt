@@ -127,11 +127,6 @@ abbrev pub candidates : Option Point → Point → Point → List Point
 candidates None normal overrun = normal ∷ overrun ∷ []
 candidates (Some best) normal overrun = best ∷ normal ∷ overrun ∷ []
 
--- the nearest point of lengths 1 to t, if there is one
-abbrev pub NearestSoFar : {S : Type 0} → Kind S → S → ℕ → Option Point → Type 0
-NearestSoFar k b t None = t ≡ 0
-NearestSoFar k b t (Some point) = Nearest k b t point
-
 -- a demand is told within the lengths and the number of streams that are judged
 pub record DemandTold {S : Type 0} (k : Kind S) (b : S) (p : Phase) (t : ℕ) (answer : Option ℕ) : Type 0 where
   pub told : k.streams b ≤ 32 → t ≤ 1000000 → answer ≡ Some (demand k b p t)

@@ -12,7 +12,12 @@ use Rattle.turns.specs.declared.Job.{Job}
 use Rattle.turns.specs.declared.State.{State}
 use Rattle.turns.specs.declared.Turn.{Turn}
 use Rattle.turns.specs.declared.Turn.TheVariants.{Idle, Of}
-use Rattle.engine.specs.Keys.{keys}
+
+-- the keys of all waiting jobs from stream i on, in the order of their streams
+abbrev pub keys : Phase → ℕ → List (Option Job) → List (ℕ × ℕ)
+keys mode i [] = []
+keys mode i (None ∷ jobs) = keys mode (i + 1) jobs
+keys mode i (Some j ∷ jobs) = key mode i j ∷ keys mode (i + 1) jobs
 
 -- what has been collected, with the keys of the jobs from place `at` on, gives all keys
 abbrev pub Collected : Phase → List (Option Job) → ℕ → List (ℕ × ℕ) → Type 0

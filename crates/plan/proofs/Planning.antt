@@ -6,17 +6,17 @@ use Rattle.stream.specs.Faults.{whole_line}
 use Rattle.stream.specs.declared.Fault.{Fault}
 use Rattle.stream.specs.declared.Layer.TheVariants.{Plan}
 use Rattle.stream.specs.declared.Refusal.{Refusal}
-use Rattle.text.specs.Reader.{bytes_left, line_number, LineRead, LineRefused, RefusedBy}
+use Rattle.text.specs.Lines.{render, Valid, LineForm}
+use Rattle.text.specs.Reader.{bytes_left, line_number, NoneRead, ReadBy}
 use Rattle.text.specs.declared.line.Line.{Line}
 use Rattle.text.specs.declared.line.Line.TheVariants.{Go}
 use Rattle.text.specs.declared.reader.Reader.{Reader}
 use Rattle.plan.specs.declared.reading.Start.{Start}
 use Rattle.plan.specs.declared.tables.Tables.{Tables}
-use Rattle.plan.specs.Plans.{Rows, rows_in, Added, Misshapen, Planned, ended, go, misshapen, refused, more}
+use Rattle.plan.specs.Plans.{Rows, rows_in, Added, Planned, ended, go, misshapen, refused, more}
 
--- the first byte that no line of the form has there
-pub misshapen_by : {form : List ℕ → Type 0} {before later : Reader} {fault : Fault} → RefusedBy form before fault later → Misshapen form (bytes_left before) (line_number before) fault
-misshapen_by off = record { read = off.read; unread = off.unread; whole = off.whole; place = off.place; halts = off.halts }
+abbrev pub LineRead : Reader → Line → Reader → Type 0
+LineRead = ReadBy render Valid
 
 -- a stream line was read, and this is what it was answered
 pub record Read (before later : Reader) (rows : Rows) (answer : Result (Unit {0}) Refusal) (next : Rows) : Type 0 where
@@ -31,9 +31,9 @@ module _ (before later : Reader) (rows : Rows) where
   pub plan_ended : length (bytes_left before) ≡ 0 → Planned (bytes_left before) (line_number before) rows (Ok None) (bytes_left before) (line_number before) rows
   plan_ended none = simp (nil_from_length (bytes_left before) none) ended
 
-  pub plan_misshapen : (fault : Fault) → (length (bytes_left before) ≡ 0 → ⊥) → LineRefused before fault later → Planned (bytes_left before) (line_number before) rows (Err fault) (bytes_left later) (line_number later) rows
+  pub plan_misshapen : (fault : Fault) → (length (bytes_left before) ≡ 0 → ⊥) → NoneRead LineForm before fault later → Planned (bytes_left before) (line_number before) rows (Err fault) (bytes_left later) (line_number later) rows
   plan_misshapen fault some off =
-      rw off.same (misshapen (λ none. some (ap length none)) (misshapen_by off))
+      rw off.same (misshapen (λ none. some (ap length none)) off.misshapen)
 
   pub plan_go : (moment : ℕ) → LineRead before (Go moment) later → Planned (bytes_left before) (line_number before) rows (Ok (Some (record { moment = moment; line = line_number before }))) (bytes_left later) (line_number later) rows
   plan_go moment read = simp read.next (go read.valid read.whole)

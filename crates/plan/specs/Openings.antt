@@ -18,11 +18,11 @@ use Rattle.plan.specs.declared.reading.Start.{Start}
 abbrev pub start_layer : ℕ → Layer
 start_layer moment = cond (nat_lt last_moment moment) Engine Demand
 
--- Why no run begins: a fault in the plan, no go line, or a refused start, which stands at the go line.
-pub data Unopened (text : List ℕ) (line : ℕ) (rows : Rows) : Fault → Type 0 where
-  unread : {fault : Fault} {rest : List ℕ} {end : ℕ} {read : Rows} → Planned text line rows (Err fault) rest end read → Unopened text line rows fault
-  endless : {rest : List ℕ} {end : ℕ} {read : Rows} → Planned text line rows (Ok None) rest end read → Unopened text line rows (out_of_shape end 1)
-  shut : {start : Start} {rest : List ℕ} {end : ℕ} (bank b : PlanBank) (s : State) (e : Refusal) → Planned text line rows (Ok (Some start)) rest end (rows_in (tables_of bank)) → Started plan_kind bank start.moment b s → s.verdict ≡ Err e → Unopened text line rows (whole_line e (start_layer start.moment) start.line)
+-- Why no run begins: a fault in the plan, no go line, or a refused start, which stands at the go line; and what is left of the text.
+pub data Unopened (text : List ℕ) (line : ℕ) (rows : Rows) : Fault → List ℕ → ℕ → Type 0 where
+  unread : {fault : Fault} {rest : List ℕ} {end : ℕ} {read : Rows} → Planned text line rows (Err fault) rest end read → Unopened text line rows fault rest end
+  endless : {rest : List ℕ} {end : ℕ} {read : Rows} → Planned text line rows (Ok None) rest end read → Unopened text line rows (out_of_shape end 1) rest end
+  shut : {start : Start} {rest : List ℕ} {end : ℕ} (bank b : PlanBank) (s : State) (e : Refusal) → Planned text line rows (Ok (Some start)) rest end (rows_in (tables_of bank)) → Started plan_kind bank start.moment b s → s.verdict ≡ Err e → Unopened text line rows (whole_line e (start_layer start.moment) start.line) rest end
 
 -- The plan is read up to its go line, and the join of its tables is started there and accepted: the verdict, the bank and the worker, of which no run is late, and what is left of the text.
 pub record Opened (text : List ℕ) (line : ℕ) (rows : Rows) (verdict : Verdict) (b : PlanBank) (s : State) (rest : List ℕ) (end : ℕ) : Type 0 where

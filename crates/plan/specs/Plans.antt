@@ -16,8 +16,7 @@ use Rattle.table.specs.Rasters.{raster, raster_states, phases_in, Raster as Rast
 use Rattle.table.specs.Sporadics.{sporadic, states_in, Sporadic as Sporadic'}
 use Rattle.table.specs.Tables.{fresh, RecordState as State}
 use Rattle.text.specs.Lines.{render, Valid, LineForm}
-use Rattle.text.specs.Places.{out_of_shape}
-use Rattle.text.specs.Words.{Halts}
+use Rattle.text.specs.Reader.{Misshapen}
 use Rattle.text.specs.declared.line.Line.{Line}
 use Rattle.text.specs.declared.line.Line.TheVariants.{Sporadic, Raster, Go}
 use Rattle.plan.specs.declared.reading.Start.{Start}
@@ -73,14 +72,6 @@ abbrev pub Added : Rows → Line → Result (Unit {0}) Refusal → Rows → Type
 Added before (Sporadic row) answer next = AddedSporadic before row answer next
 Added before (Raster row phase) answer next = AddedRaster before row phase answer next
 Added before (Go moment) answer next = ⊥
-
--- The first byte at which the text is no line of the form any more.
-pub record Misshapen (form : List ℕ → Type 0) (text : List ℕ) (line : ℕ) (fault : Fault) : Type 0 where
-  pub read : List ℕ
-  pub unread : List ℕ
-  pub whole : text ≡ read ++ unread
-  pub place : fault ≡ out_of_shape line (length read + 1)
-  pub halts : Halts form read unread
 
 -- From a text, the number of its first line and the streams so far, to the answer (where it says go, if it does), what is left of the text, the number of its first line, and the streams. A refused stream line is told at its place.
 pub data Planned : List ℕ → ℕ → Rows → Result (Option Start) Fault → List ℕ → ℕ → Rows → Type 0 where

@@ -32,7 +32,7 @@ fn start_layer(moment: u64) -> Layer
 
 // Reads a plan up to its go line and starts what it says, or finds the first fault in it.
 pub fn open_plan(reader: &mut Reader, mut tables: Tables) -> Result<Opening, Fault>
-    ensures { MatchResult result (λ o. Opened (bytes_left reader.old) (line_number reader.old) (rows_in tables) o.verdict o.engine.bank o.engine.state (bytes_left reader.new) (line_number reader.new)) (λ fault. Unopened (bytes_left reader.old) (line_number reader.old) (rows_in tables) fault) }
+    ensures { MatchResult result (λ o. Opened (bytes_left reader.old) (line_number reader.old) (rows_in tables) o.verdict o.engine.bank o.engine.state (bytes_left reader.new) (line_number reader.new)) (λ fault. Unopened (bytes_left reader.old) (line_number reader.old) (rows_in tables) fault (bytes_left reader.new) (line_number reader.new)) }
 {
     let go = read_plan(reader, &mut tables)?;
     // without a go line, the text ends where one is due

@@ -80,7 +80,7 @@ module _ {S : Type 0} (k : Kind S) where
       }
 
 -- a plan that is refused is told by one fault
-unopened_ordinary : (text : List ℕ) (fault : Fault) → length text ≤ 65536 → Unopened text 1 no_rows fault → OrdinaryFault fault
+unopened_ordinary : (text : List ℕ) (fault : Fault) {rest : List ℕ} {end : ℕ} → length text ≤ 65536 → Unopened text 1 no_rows fault rest end → OrdinaryFault fault
 unopened_ordinary text fault few (unread planned) =
     let near = (plan_spans planned).told in
     near_ordinary fault (record { line = omega (arith, near.line); byte = omega (arith, near.byte); pointless = near.pointless })

@@ -15,7 +15,8 @@ use Rattle.text.specs.Lines.{item_bytes, render}
 use Rattle.text.specs.Words.{numbered}
 use Rattle.text.specs.declared.line.Line.{Line}
 use Rattle.text.specs.declared.line.Line.TheVariants.{Sporadic, Raster, Go}
-use Rattle.plan.specs.Plans.{Rows, Added, AddedSporadic, sporadic_full, sporadic_disordered, sporadic_unfit, AddedRaster, raster_full, raster_unfit, raster_unphased, Misshapen, Planned, ended, go, misshapen, refused, more}
+use Rattle.text.specs.Reader.{Misshapen}
+use Rattle.plan.specs.Plans.{Rows, Added, AddedSporadic, sporadic_full, sporadic_disordered, sporadic_unfit, AddedRaster, raster_full, raster_unfit, raster_unphased, Planned, ended, go, misshapen, refused, more}
 use Rattle.plan.specs.declared.reading.Start.{Start}
 use Rattle.script.specs.Buffers.{newlines}
 

@@ -10,7 +10,7 @@ use Rattle.text.specs.declared.answer.Answer.{Answer}
 use Rattle.text.specs.declared.answer.Answer.TheVariants.{Refused, Total}
 use Rattle.text.specs.declared.call.Call.{Call}
 use Rattle.script.specs.Performing.{Performed}
-use Rattle.plan.specs.Plans.{Misshapen}
+use Rattle.text.specs.Reader.{Misshapen}
 use Rattle.plan.specs.Written.{lines_of}
 
 -- From what is left of the text, the number of its first line, the bank and the worker, to the answers: the counts at the end of the text, or a fault and nothing more.

@@ -14,7 +14,7 @@ use Rattle.script.specs.Playing.{Played}
 
 -- A plan that is refused is answered by its fault. One that is accepted is followed by the answers to the script, and its account is lawful.
 pub data Answered (text : List ℕ) : List Answer → Type 0 where
-  refused : {fault : Fault} → Unopened text 1 no_rows fault → Answered text (Refused fault ∷ [])
+  refused : {fault : Fault} {rest : List ℕ} {end : ℕ} → Unopened text 1 no_rows fault rest end → Answered text (Refused fault ∷ [])
   accepted : {verdict : Verdict} {b : PlanBank} {s : State} {rest : List ℕ} {end : ℕ} {answers : List Answer} → Opened text 1 no_rows verdict b s rest end → Played plan_kind rest end b s answers → Accounted plan_kind b s rest answers → Answered text (Accepted verdict ∷ answers)
 
 abbrev pub Replayed : List ℕ → List ℕ → Type 0

@@ -1,6 +1,6 @@
 // Running a script, call by call.
 
-ghost use Rattle.std.specs.Prelude.{◌≡◌, string_bytes, OnOk};
+ghost use Rattle.std.specs.Prelude.{string_bytes, OnOk};
 ghost use Rattle.text.specs.Reader.{bytes_left, line_number};
 ghost use Rattle.script.specs.Performing.{Given, Performed, TurnTaken};
 ghost use Rattle.script.specs.Playing.{Wrote};

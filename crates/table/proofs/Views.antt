@@ -1,6 +1,6 @@
 -- What the acts of the two kinds come to where a state is told by its record, its wait and its phase.
 
-use Rattle.std.proofs.Common.{◌≡◌, ℕ, suc, ◌+◌, ◌-◌, List, [], ◌∷◌, map, length, Some, None, Option, sym, refl, ap, ◌∙◌, subst, arith}
+use Rattle.std.proofs.Common.{◌≡◌, ℕ, suc, ◌+◌, ◌-◌, List, [], ◌∷◌, map, length, Some, None, Option, sym, refl, ap, ◌∙◌, subst, arith, slice_index}
 use Rattle.std.proofs.lemmas.List.{length-map, map-set}
 use Rattle.std.proofs.lemmas.Simd.{map-map}
 use Rattle.std.proofs.lemmas.Option.{get_or_from_slice_get, slice_get-map}
@@ -8,15 +8,34 @@ use Rattle.std.specs.Option.{option_map}
 use Rattle.std.specs.List.{slice_get}
 use Rattle.stream.specs.declared.limits.Record.{Record}
 use Rattle.table.specs.Keeping.{Keeps, closing_keeps, rewaiting_keeps, ticking_keeps}
-use Rattle.table.specs.Phases.{Aligned, Until, next_wait, phase_of, turned}
+use Rattle.table.specs.Phases.{Until, next_wait}
 use Rattle.table.specs.Rasters.{Raster, phases_in, raster, raster_states, unphased}
 use Rattle.table.specs.Shortening.{AllShortened, shortened}
 use Rattle.table.specs.Sporadics.{Sporadic, sporadic, states_in}
-use Rattle.table.specs.Tables.{Closes, Rewaited, amount, opened, opening_of, record_of, state_of, states_of, waiting}
+use Rattle.table.specs.Tables.{Closes, RecordState, Rewaited, amount, opening_of, record_of, state_of, states_of, waiting}
 use Rattle.table.specs.TablesLemmas.{none_not_some, state_at, state_numbered, state_of_map, state_unnumbered}
 use Rattle.table.specs.Waits.{after}
 use Rattle.table.specs.declared.phasing.OnRaster.{OnRaster}
 use Rattle.table.specs.declared.shared.State.{State}
+
+-- a state open at once, and one tick nearer to open
+abbrev pub opened : {S : Type 0} → State S → State S
+opened s = waiting 0 s
+
+abbrev pub lowered : {S : Type 0} → State S → State S
+lowered s = waiting (s.wait - 1) s
+
+-- a state a tick later, on a raster
+abbrev pub turned : RecordState → RecordState
+turned s = waiting (next_wait s.wait s.stream.row.gap) s
+
+-- the phase of stream i
+abbrev pub phase_of : List ℕ → ℕ → ℕ
+phase_of phases i = slice_index phases (i - 1)
+
+-- each stream waits for the first moment of its phase
+abbrev pub Aligned : ℕ → List ℕ → List RecordState → List RecordState → Type 0
+Aligned moment phases = Rewaited (λ i r wait. Until moment r.row.gap (phase_of phases i) wait)
 
 same_places : {X : Type 0} (xs ys : List X) → ((k : ℕ) → slice_get xs k ≡ slice_get ys k) → xs ≡ ys
 same_places [] [] same = refl

@@ -2,7 +2,7 @@
 
 use Rattle.std.specs.Prelude.{ℕ, List, map}
 use Rattle.bank.specs.Kinds.{Kind}
-use Rattle.table.specs.Phases.{Until, next_wait}
+use Rattle.table.specs.Phases.{next_on_raster, open_on_raster}
 use Rattle.table.specs.Tabled.{timetabled}
 use Rattle.table.specs.Tables.{RecordState, states_of}
 use Rattle.table.specs.declared.phasing.OnRaster.{OnRaster}
@@ -25,4 +25,4 @@ phases_in b = map (λ s. s.stream.phase) (states_of b.table)
 
 -- its letter is R
 abbrev pub raster : Kind Raster
-raster = timetabled 82 (λ s. s.record) (λ moment s wait. Until moment s.record.row.gap s.phase wait) (λ s wait. next_wait wait s.record.row.gap)
+raster = timetabled 82 (λ s. s.record) open_on_raster next_on_raster

@@ -4,8 +4,6 @@ use Rattle.std.specs.Prelude.{◌≡◌, ℕ, ◌+◌, ◌*◌, ◌/◌, Bool, c
 use Rattle.std.specs.Option.{option_map}
 use Rattle.stream.specs.declared.Class.{Class}
 use Rattle.stream.specs.declared.Class.TheVariants.{Critical, Background}
-use Rattle.stream.specs.declared.Refusal.{Refusal}
-use Rattle.stream.specs.declared.Refusal.TheVariants.{FactorOutOfLimits, ShortDeadlineOutOfLimits}
 use Rattle.stream.specs.declared.Row.{Row}
 use Rattle.stream.specs.declared.limits.Record.{Record}
 use Rattle.table.specs.Tables.{state_of, states_of}
@@ -44,6 +42,7 @@ pub record Shortening {S : Type 0} (recorded : S → Record) (alike : S → S �
   pub refused : (why : Shortfall) → shortfall_of recorded factor (states_of b.table) ≡ Some why → (answer ≡ Err why) × (c ≡ b)
   pub accepted : shortfall_of recorded factor (states_of b.table) ≡ None → (answer ≡ Ok tt) × AllShortened recorded alike factor (states_of b.table) (states_of c.table)
 
-abbrev pub refusal_of : Shortfall → Refusal
-refusal_of Factor = FactorOutOfLimits
-refusal_of (Stream i) = ShortDeadlineOutOfLimits
+-- the number that each is refused by
+abbrev pub number_of : Shortfall → ℕ
+number_of Factor = 13
+number_of (Stream i) = 7

@@ -1,10 +1,11 @@
 -- The bank of streams that stay closed for a gap after each release, and else are open.
 
-use Rattle.std.specs.Prelude.{◌≡◌, ◌-◌, List}
+use Rattle.std.specs.Prelude.{List}
 use Rattle.bank.specs.Kinds.{Kind}
 use Rattle.stream.specs.declared.limits.Record.{Record}
 use Rattle.table.specs.Tabled.{timetabled}
 use Rattle.table.specs.Tables.{RecordState, states_of}
+use Rattle.table.specs.Waits.{one_less, open_at_once}
 use Rattle.table.specs.declared.timetable.Timetable.{Timetable}
 
 abbrev pub Sporadic : Type 0
@@ -15,4 +16,4 @@ states_in b = states_of b.table
 
 -- its letter is S
 abbrev pub sporadic : Kind Sporadic
-sporadic = timetabled 83 (λ r. r) (λ moment r wait. wait ≡ 0) (λ r wait. wait - 1)
+sporadic = timetabled 83 (λ r. r) open_at_once one_less

@@ -46,14 +46,6 @@ waiting ticks s = record { stream = s.stream; wait = ticks }
 abbrev pub ticked : {S : Type 0} → (S → ℕ → ℕ) → State S → State S
 ticked wait_after s = waiting (wait_after s.stream s.wait) s
 
--- open at once
-abbrev pub opened : {S : Type 0} → State S → State S
-opened s = waiting 0 s
-
--- one tick nearer to open
-abbrev pub lowered : {S : Type 0} → State S → State S
-lowered s = waiting (s.wait - 1) s
-
 -- closed for its gap
 abbrev pub closed : {S : Type 0} → (S → Record) → State S → State S
 closed recorded s = waiting (recorded s.stream).row.gap s

@@ -1,6 +1,6 @@
 // The table that the banks of this crate share. It keeps no invariant, so that its methods may change one state at a time.
 
-ghost use Rattle.std.specs.Prelude.{◌≡◌, ◌<◌, ◌≤◌, [], ◌∷◌, ◌++◌, map, length, position, IfSome, Some, None, slice_set};
+ghost use Rattle.std.specs.Prelude.{◌≡◌, ◌<◌, [], ◌∷◌, ◌++◌, map, length, position, IfSome, Some, None, slice_set};
 ghost use Rattle.bank.specs.Accepting.{Accepted};
 ghost use Rattle.bank.specs.Questions.{asked, told};
 ghost use Rattle.std.specs.Option.{option_map};

@@ -1,7 +1,8 @@
 // Shorter short deadlines for critical streams: an overrun then finds more slack.
 
 ghost use Rattle.std.specs.Prelude.{◌≡◌, ◌≤◌, MatchResult};
-ghost use Rattle.table.specs.Shortening.{refusal_of, shortened, too_short};
+ghost use Rattle.stream.specs.Refusals.{number};
+ghost use Rattle.table.specs.Shortening.{number_of, shortened, too_short};
 ghost use Rattle.table.specs.declared.shortening.Shortfall.TheVariants.{Factor};
 
 use stream::{Class, Record, Refusal, Row};
@@ -14,7 +15,7 @@ pub enum Shortfall {
 }
 
 impl From<Shortfall> for Refusal {
-    ghost from_gives = { λ why refusal. refusal ≡ refusal_of why };
+    ghost from_gives = { λ why refusal. number refusal ≡ number_of why };
 
     fn from(why: Shortfall) -> Refusal {
         match why {

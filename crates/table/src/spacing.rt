@@ -1,6 +1,6 @@
 // Streams of which two releases are never nearer to each other than the gap.
 
-ghost use Rattle.std.specs.Prelude.{◌≡◌, ◌-◌};
+ghost use Rattle.table.specs.Waits.{one_less, open_at_once};
 ghost use Rattle.table.specs.WaitsLemmas.{tick_opens_no_more};
 
 use crate::timed::Timed;
@@ -20,9 +20,9 @@ const BLANK: Row = Row {
 impl Timed for Record {
     ghost recorded = { λ r. r };
 
-    ghost first_wait = { λ moment r wait. wait ≡ 0 };
+    ghost first_wait = { open_at_once };
 
-    ghost wait_after = { λ r wait. wait - 1 };
+    ghost wait_after = { one_less };
 
     ghost alike = { λ r s. Unit {0} };
 

@@ -14,8 +14,9 @@ use Rattle.bank.proofs.Backs.{back_before, back_after}
 use Rattle.demand.specs.Demands.{share}
 use Rattle.demand.specs.Shares.{normal_share, overrun_share, greatest, carrying, slack, if_critical}
 use Rattle.demand.proofs.Plateaus.{greatest_reaches}
-use Rattle.turns.specs.Jobs.{allowance, term, deadline_of, worked, released}
+use Rattle.turns.specs.Jobs.{term, deadline_of, worked, released}
 use Rattle.turns.specs.declared.Job.{Job}
+use Rattle.turns.proofs.Ends.{allowance}
 
 -- the turns still owed to a job that is due t ticks from now
 abbrev pub owed : Phase → ℕ → ℕ → Option Job → ℕ

@@ -9,9 +9,14 @@ use Rattle.stream.specs.declared.Class.TheVariants.{Critical, Background}
 use Rattle.stream.specs.declared.Phase.{Phase}
 use Rattle.stream.specs.declared.Phase.TheVariants.{Normal, Overrun}
 use Rattle.stream.specs.declared.Row.{Row}
-use Rattle.turns.specs.Jobs.{allowance, at_budget, background, ending}
+use Rattle.turns.specs.Jobs.{at_budget, background, ending}
 use Rattle.turns.specs.declared.End.{End}
 use Rattle.turns.specs.declared.End.TheVariants.{Going, Finished, Cut, Switch}
+
+-- the turns that a job may take
+abbrev pub allowance : Phase → Row → ℕ
+allowance Normal r = r.budget
+allowance Overrun r = r.certain
 
 -- what an end says; a job that is cut has had what it was owed
 abbrev pub Says : Phase → Row → ℕ → End → Type 0

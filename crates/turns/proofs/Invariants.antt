@@ -6,11 +6,12 @@ use Rattle.stream.specs.declared.Phase.{Phase}
 use Rattle.stream.specs.declared.limits.Record.{Record}
 use Rattle.bank.specs.Ceilings.{Ceiling}
 use Rattle.demand.specs.Demands.{total, share}
-use Rattle.turns.specs.Jobs.{allowance, deadline_of, job_of}
+use Rattle.turns.specs.Jobs.{deadline_of, job_of}
 use Rattle.turns.specs.Steps.{Next}
 use Rattle.turns.specs.declared.Job.{Job}
 use Rattle.turns.specs.declared.State.{State}
 use Rattle.turns.specs.declared.Turn.{Turn}
+use Rattle.turns.proofs.Ends.{allowance}
 use Rattle.turns.proofs.Burdens.{owed, coming, burden, owed_due, coming_demanded}
 use Rattle.turns.proofs.Sums.{total_le, total_term}
 

@@ -11,7 +11,7 @@ use Rattle.stream.specs.declared.Row.{Row}
 use Rattle.stream.specs.declared.limits.Record.{Record}
 use Rattle.demand.specs.Demands.{total, share}
 use Rattle.least.specs.Orders.{pair_below}
-use Rattle.turns.specs.Jobs.{allowance, deadline_of, job_of, put, released, worked, background, shed}
+use Rattle.turns.specs.Jobs.{deadline_of, job_of, put, released, worked, background, shed}
 use Rattle.turns.specs.Steps.{with_job, Next, key, ticked, ended}
 use Rattle.turns.specs.declared.End.{End}
 use Rattle.turns.specs.declared.End.TheVariants.{Going, Finished, Cut, Switch}
@@ -19,7 +19,7 @@ use Rattle.turns.specs.declared.Job.{Job}
 use Rattle.turns.specs.declared.State.{State}
 use Rattle.turns.specs.declared.Turn.TheVariants.{Idle, Of}
 use Rattle.turns.proofs.Burdens.{owed, burden, owed_due, owed_later, owed_ticked, owed_worked, coming_less, coming_ticked, coming_demanded, burden_released, burden_carried}
-use Rattle.turns.proofs.Ends.{Says}
+use Rattle.turns.proofs.Ends.{Says, allowance}
 use Rattle.turns.proofs.Invariants.{Plan, Inside, Later, burden_at, burden_of, Bearable, Held, SlotOk, SlotsOk, TurnOk, Sane, quiet_bears, before_deadline, owed_in_time}
 use Rattle.turns.proofs.Slots.{job_put_same, put_each, job_shed}
 use Rattle.turns.proofs.Sums.{total_le, total_lt}

@@ -21,8 +21,8 @@ use Rattle.bank.proofs.Windows.{same_then, same_self}
 use Rattle.demand.proofs.Widths.{short_fits}
 use Rattle.demand.specs.Demands.{demand, Feasible}
 use Rattle.demand.specs.Verdicts.{Decided}
-use Rattle.turns.specs.Jobs.{allowance, deadline_of, job_of, released, worked, waiting, background, ending}
-use Rattle.turns.specs.Law.{InTime, BeginsOverrun, Kept, NoneLate, Promise}
+use Rattle.turns.specs.Jobs.{deadline_of, job_of, released, worked, waiting, background, ending}
+use Rattle.turns.specs.Law.{InTime, BeginsOverrun, Kept, NoneLate}
 use Rattle.turns.specs.Ledgers.{Status, waits, finished, cut, dropped, Entry, Ledger, empty, is_waiting, is_finished, is_cut, newcomer, older, end_in, served, mode_after, left_after, settled_in, entered, kept}
 use Rattle.turns.specs.Runs.{Call, release, pick, settle, calm, Heard, heard_turn, Step, Run, still, step}
 use Rattle.turns.specs.Steps.{last_moment, fresh, Started, is_shut, in_overrun, barred, release_refusal, with_job, Next, with_turn, settle_refusal, ticked, ended, numbered, runner, end_of, after_turn, told_of, calm_refusal, calmed}
@@ -33,7 +33,7 @@ use Rattle.turns.specs.declared.Settled.{Settled}
 use Rattle.turns.specs.declared.State.{State}
 use Rattle.turns.specs.declared.Turn.{Turn}
 use Rattle.turns.specs.declared.Turn.TheVariants.{Idle, Of}
-use Rattle.turns.proofs.Ends.{Says, end_says}
+use Rattle.turns.proofs.Ends.{Says, allowance, end_says}
 use Rattle.turns.proofs.Entries.{StatusOk, Known, Leaves}
 use Rattle.turns.proofs.Invariants.{Plan, Inside, SlotOk, TurnOk, Sane, before_deadline}
 use Rattle.turns.proofs.Keeping.{none_waits, sane_idle, sane_released, sane_ended, sane_idled}
@@ -314,6 +314,7 @@ module _ {S : Type 0} (k : Kind S) (laws : Laws k) (origin : S) where
     in_time = All-weaker (Known (k.records origin) s.moment s.jobs) (InTime (k.records origin)) (λ e h. in_time k laws origin few feasible b s l live e h) l.entries live.tracks.known;
     counted = tracked_counts (k.records origin) s l live.sane.room live.tracks;
     turn_out = λ turn e. subst (TurnOk s) e live.sane.turn;
+    places = λ unshut. let same = live.same.streams in omega (arith, few);
     dropping = λ c t call h st. only_switch_drops k b c s t call h st;
   }
 
@@ -341,6 +342,7 @@ module _ {S : Type 0} (k : Kind S) (laws : Laws k) (origin : S) where
     in_time = tt;
     counted = tracked_counts (k.records origin) (fresh moment (Err e)) empty refl (fresh_tracks moment (Err e));
     turn_out = λ turn e. absurd (clash (ap is_some e));
+    places = λ unshut. absurd (clash (sym unshut));
     dropping = λ c t call h st. only_switch_drops k b c (fresh moment (Err e)) t call h st;
   }
 
@@ -388,6 +390,3 @@ none_late {S} k laws bank moment b s started calls c t run =
           tracks = fresh_tracks k laws b moment (Ok v);
         }))
         run
-
-pub promise_holds : {S : Type 0} (k : Kind S) → Laws k → Promise k
-promise_holds k laws bank moment b s started = none_late k laws bank moment b s started

@@ -10,11 +10,6 @@ use Rattle.turns.specs.declared.End.{End}
 use Rattle.turns.specs.declared.End.TheVariants.{Going, Finished, Cut, Switch}
 use Rattle.turns.specs.declared.Job.{Job}
 
--- the turns that a job may take
-abbrev pub allowance : Phase → Row → ℕ
-allowance Normal r = r.budget
-allowance Overrun r = r.certain
-
 -- the ticks from its release to its deadline
 abbrev pub term : Phase → Row → ℕ
 term Normal r = r.short

@@ -1,6 +1,6 @@
 -- The law of every run: no job is late, and none is lost.
 
-use Rattle.std.specs.Prelude.{◌≡◌, ℕ, ◌+◌, ◌≤◌, ◌⊎◌, List, length, Some, Option}
+use Rattle.std.specs.Prelude.{◌≡◌, ℕ, ◌+◌, ◌≤◌, ◌⊎◌, false, List, length, Some, Option}
 use Rattle.std.specs.List.{AllByRecursion}
 use Rattle.stream.specs.declared.Class.TheVariants.{Critical, Background}
 use Rattle.stream.specs.declared.Phase.TheVariants.{Normal, Overrun}
@@ -9,7 +9,7 @@ use Rattle.bank.specs.Kinds.{Kind}
 use Rattle.turns.specs.Jobs.{waiting}
 use Rattle.turns.specs.Ledgers.{finished, dropped, Entry, Ledger, empty, sort, is_waiting, is_finished, is_cut, is_dropped, kept}
 use Rattle.turns.specs.Runs.{Call, release, pick, settle, calm, Heard, Step, Run}
-use Rattle.turns.specs.Steps.{Next, Started}
+use Rattle.turns.specs.Steps.{Next, is_shut}
 use Rattle.turns.specs.declared.State.{State}
 use Rattle.turns.specs.declared.Turn.{Turn}
 
@@ -43,6 +43,8 @@ pub record Kept {S : Type 0} (k : Kind S) (records : ℕ → Option Record) (b :
   pub counted : Counted s l
   -- a turn that is out is that of the job that goes next, which still waits
   pub turn_out : (turn : Turn) → s.turn ≡ Some turn → Next s turn
+  -- an open worker has a place for the job of each stream
+  pub places : is_shut s.verdict ≡ false → k.streams b ≤ 32
   -- whatever call comes next, jobs are dropped only by a settle that begins an overrun
   pub dropping : (c : S) (t : State) (call : Call) (h : Heard) → Step k b s call h c t → (t.tally.dropped ≡ s.tally.dropped) ⊎ BeginsOverrun call s t
 
@@ -50,7 +52,3 @@ pub record Kept {S : Type 0} (k : Kind S) (records : ℕ → Option Record) (b :
 abbrev pub NoneLate : {S : Type 0} → Kind S → S → State → Type 0
 NoneLate {S} k b s =
     (calls : List (Call × Heard)) (c : S) (t : State) → Run k b s calls c t → Kept k (k.records b) c t (kept (k.records b) empty calls)
-
--- of every bank of a kind, started at any moment
-abbrev pub Promise : {S : Type 0} → Kind S → Type 0
-Promise {S} k = (bank : S) (moment : ℕ) (b : S) (s : State) → Started k bank moment b s → NoneLate k b s

@@ -1,3 +1,4 @@
+pub mod Twos
 pub mod Pairs
 pub mod Waiting
 pub mod Picking

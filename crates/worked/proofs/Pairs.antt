@@ -1,6 +1,7 @@
--- A sporadic bank of two known rows: its demands and its horizon are computed, and so the verdict on it.
+-- A bank of two known rows with the ceilings of a table: its demands and its horizon are computed, and so the verdict on it.
 
-use Rattle.std.proofs.Common.{◌≡◌, ℕ, zero, suc, ◌+◌, ◌-◌, ◌%◌, ◌<◌, ◌≤◌, Bool, true, false, not, ◌&&◌, ltb, leb, List, [], ◌∷◌, length, pos, ◌-ℤ◌, Some, sym, refl, ap, ◌∙◌, subst, ⊎_elim, zero-add, arith}
+use Rattle.std.proofs.Common.{◌≡◌, ℕ, zero, suc, ◌+◌, ◌-◌, ◌*◌, ◌%◌, ◌<◌, ◌≤◌, min, Bool, true, false, not, cond, ◌&&◌, ltb, leb, pos, ◌-ℤ◌, Some, Option, sym, refl, ap, ◌∙◌, subst, ⊎_elim, zero-add, arith}
+use Rattle.std.specs.Prelude.{nat_lt}
 use Rattle.std.proofs.lemmas.Bool.{cases_lt, and_parts, not-true, leb-true, ltb-true}
 use Rattle.stream.specs.declared.Phase.{Phase}
 use Rattle.stream.specs.declared.Phase.TheVariants.{Normal, Overrun}
@@ -8,54 +9,36 @@ use Rattle.stream.specs.declared.Point.{Point}
 use Rattle.stream.specs.declared.Row.{Row}
 use Rattle.stream.specs.declared.Verdict.{Verdict}
 use Rattle.stream.specs.declared.limits.Record.{Record}
+use Rattle.bank.specs.Kinds.{Kind}
+use Rattle.bank.specs.Laws.{Laws}
 use Rattle.least.specs.Orders.{point_below}
-use Rattle.demand.specs.Demands.{total, share, demand, Fits}
+use Rattle.demand.specs.Demands.{total, share, asks, demand, Fits}
 use Rattle.demand.specs.Horizons.{Common}
-use Rattle.demand.specs.Shares.{normal_share, overrun_share}
+use Rattle.demand.specs.Published.{spaced}
+use Rattle.demand.specs.Shares.{normal_share, overrun_share, greatest, carrying, slack, if_critical, share_of}
 use Rattle.demand.specs.Verdicts.{point_at, InReach, AcceptsAll, ExceedsFirst, Exceeds}
 use Rattle.demand.proofs.Beyond.{accepts_all}
-use Rattle.table.specs.Sporadics.{sporadic, states_in, Sporadic}
-use Rattle.table.specs.Tables.{record_of, ceiling_of, RecordState as State}
-use Rattle.table.specs.Waits.{every}
-use Rattle.table.specs.Openings.{ceiling_lawful}
-use Rattle.table.specs.TablesLemmas.{record_numbered}
-use Rattle.worked.specs.Plans.{rows, Pair}
-
--- the two states of such a bank
-pub record Two (x y : Row) (states : List State) : Type 0 where
-  pub first : State
-  pub second : State
-  pub is : states ≡ first ∷ second ∷ []
-  pub first_row : first.stream.row ≡ x
-  pub second_row : second.stream.row ≡ y
-
-pub two : (x y : Row) (states : List State) → rows states ≡ x ∷ y ∷ [] → Two x y states
-two x y [] e = let z : ◌≡◌ {A = ℕ} 0 1 = cc in let f : ⊥ = omega arith in absurd f
-two x y (s ∷ []) e = let z : ◌≡◌ {A = ℕ} 0 1 = cc in let f : ⊥ = omega arith in absurd f
-two x y (s ∷ t ∷ []) e = record { first = s; second = t; is = refl; first_row = cc; second_row = cc }
-two x y (s ∷ t ∷ u ∷ more) e = let z : ◌≡◌ {A = ℕ} 0 1 = cc in let f : ⊥ = omega arith in absurd f
+use Rattle.worked.specs.Plans.{Has, Pair}
 
 abbrev pub row_share : Row → Phase → ℕ → ℕ
-row_share r Normal t = normal_share r (every r.gap) t
-row_share r Overrun t = overrun_share r (every r.gap) t
+row_share r p t = share_of p r (spaced r) t
 
 abbrev pub pair_demand : Row → Row → Phase → ℕ → ℕ
 pair_demand x y p t = row_share x p t + row_share y p t
 
-abbrev states_demand : List State → Phase → ℕ → ℕ
-states_demand xs p t = total (length xs) (λ i. share (record_of (λ r. r) xs i) p (ceiling_of (λ r. r) xs i) t)
+-- a share depends on the values of a ceiling alone
+greatest_same : (f g : ℕ → ℕ) → ((n : ℕ) → f n ≡ g n) → (from count : ℕ) → greatest f from count ≡ greatest g from count
+unfolding greatest
+greatest_same f g same from zero = refl
+greatest_same f g same from (suc count) =
+    let rest = greatest_same f g same from count in
+    let last = same (from + count) in
+    cc
 
-two_demand : (s u : State) (p : Phase) (t : ℕ) → states_demand (s ∷ u ∷ []) p t ≡ pair_demand s.stream.row u.stream.row p t
-unfolding total
-two_demand s u Normal t = ap (λ (n : ℕ). n + row_share u.stream.row Normal t) (zero-add (row_share s.stream.row Normal t))
-two_demand s u Overrun t = ap (λ (n : ℕ). n + row_share u.stream.row Overrun t) (zero-add (row_share s.stream.row Overrun t))
-
--- what holds of both rows holds of every record
-either_row : (P : Row → Type 0) (s u : State) (r : Record) → P s.stream.row → P u.stream.row → (i : ℕ) → record_of (λ r. r) (s ∷ u ∷ []) i ≡ Some r → 1 ≤ i → i ≤ 2 → P r.row
-either_row P s u r ps pu zero e some few = let z : ⊥ = omega arith in absurd z
-either_row P s u r ps pu (suc zero) e some few = let is : s.stream ≡ r = cc in subst (λ (q : Record). P q.row) is ps
-either_row P s u r ps pu (suc (suc zero)) e some few = let is : u.stream ≡ r = cc in subst (λ (q : Record). P q.row) is pu
-either_row P s u r ps pu (suc (suc (suc i))) e some few = let z : ⊥ = omega arith in absurd z
+same_share : (p : Phase) (r : Row) (N M : ℕ → ℕ) → ((m : ℕ) → N m ≡ M m) → (t : ℕ) → share_of p r N t ≡ share_of p r M t
+unfolding normal_share overrun_share carrying
+same_share Normal r N M same t = ap (λ (n : ℕ). cond (nat_lt t r.short) 0 n * r.budget) (same (t - r.short))
+same_share Overrun r N M same t = ap (if_critical r.class) (greatest_same (carrying r N t) (carrying r M t) (λ n. ap (λ (x : ℕ). x * r.certain - (r.budget + slack r - n)) (same (t - n))) (slack r) (min t r.deadline + 1 - slack r))
 
 -- a test that is true at each number below n
 abbrev pub upto : ℕ → (ℕ → Bool) → Bool
@@ -93,35 +76,46 @@ pub record Least (x y : Row) (h : ℕ) : Type 0 where
   pub second : h % y.gap ≡ 0
   pub least : (m : ℕ) → 1 ≤ m → m % x.gap ≡ 0 → m % y.gap ≡ 0 → h ≤ m
 
-module _ (x y : Row) (b : Sporadic) (pair : Pair x y b) where
-  pub demand_pair : (p : Phase) (t : ℕ) → demand sporadic b p t ≡ pair_demand x y p t
+module _ {S : Type 0} (k : Kind S) (laws : Laws k) (x y : Row) (b : S) (pair : Pair k x y b) where
+  asks_row : (i : ℕ) (row : Row) → Has k b i row → (p : Phase) (t : ℕ) → asks k b p t i ≡ row_share row p t
+  asks_row i row (r, found, is) p t =
+      ap (λ (o : Option Record). share o p (k.ceiling b i) t) found
+      ∙ same_share p r.row (k.ceiling b i) (spaced r.row) (λ m. pair.ceilings i r m found) t
+      ∙ ap (λ (q : Row). row_share q p t) is
+
+  pub demand_pair : (p : Phase) (t : ℕ) → demand k b p t ≡ pair_demand x y p t
+  unfolding total
   demand_pair p t =
-      let w = two x y (states_in b) pair in
-      ap (λ (xs : List State). states_demand xs p t) w.is
-      ∙ two_demand w.first w.second p t
-      ∙ ap (λ (r : Row). pair_demand r w.second.stream.row p t) w.first_row
-      ∙ ap (λ (r : Row). pair_demand x r p t) w.second_row
+      ap (λ (n : ℕ). total n (asks k b p t)) pair.two
+      ∙ ap (λ (n : ℕ). n + asks k b p t 2) (zero-add (asks k b p t 1))
+      ∙ ap (λ (n : ℕ). n + asks k b p t 2) (asks_row 1 x pair.first p t)
+      ∙ ap (λ (n : ℕ). row_share x p t + n) (asks_row 2 y pair.second p t)
 
-  pub streams_pair : sporadic.streams b ≡ 2
-  streams_pair = ap length (two x y (states_in b) pair).is
+  -- what holds of both rows holds of every record
+  each_row : (P : Row → Type 0) → P x → P y → (i : ℕ) (r : Record) → k.records b i ≡ Some r → P r.row
+  each_row P px py i r e = let range = laws.numbered b i r e in by_number i e range.0 (let two = pair.two in omega arith)
+    where
+      has : (n : ℕ) (row : Row) → Has k b n row → P row → k.records b n ≡ Some r → P r.row
+      has n row (q, found, is) h e =
+          let same : Some q ≡ Some r = sym found ∙ e in
+          let one : q ≡ r = cc in
+          subst (λ (z : Record). P z.row) one (subst P (sym is) h)
 
-  each_row : (P : Row → Type 0) → P x → P y → (i : ℕ) (r : Record) → sporadic.records b i ≡ Some r → P r.row
-  each_row P px py i r e =
-      let w = two x y (states_in b) pair in
-      let at = record_numbered (λ r. r) (states_in b) i r e in
-      let long = streams_pair in
-      either_row P w.first w.second r (subst P (sym w.first_row) px) (subst P (sym w.second_row) py) i (sym (ap (λ (xs : List State). record_of (λ r. r) xs i) w.is) ∙ e) at.0 (omega arith)
+      by_number : (n : ℕ) → k.records b n ≡ Some r → 1 ≤ n → n ≤ 2 → P r.row
+      by_number zero e some few = let z : ⊥ = omega arith in absurd z
+      by_number (suc zero) e some few = has 1 x pair.first px e
+      by_number (suc (suc zero)) e some few = has 2 y pair.second py e
+      by_number (suc (suc (suc n))) e some few = let z : ⊥ = omega arith in absurd z
 
-  pub gaps_divide : (m : ℕ) → Common sporadic b m → (m % x.gap ≡ 0) × (m % y.gap ≡ 0)
-  gaps_divide m common =
-      let w = two x y (states_in b) pair in
-      let first = common.divided 1 w.first.stream (ap (λ (xs : List State). record_of (λ r. r) xs 1) w.is) in
-      let second = common.divided 2 w.second.stream (ap (λ (xs : List State). record_of (λ r. r) xs 2) w.is) in
-      (sym (ap (λ (r : Row). m % r.gap) w.first_row) ∙ first, sym (ap (λ (r : Row). m % r.gap) w.second_row) ∙ second)
+  pub gaps_divide : (m : ℕ) → Common k b m → (m % x.gap ≡ 0) × (m % y.gap ≡ 0)
+  gaps_divide m common = (divides 1 x pair.first, divides 2 y pair.second)
+    where
+      divides : (i : ℕ) (row : Row) → Has k b i row → m % row.gap ≡ 0
+      divides i row (r, found, is) = sym (ap (λ (q : Row). m % q.gap) is) ∙ common.divided i r found
 
-  pub reach_pair : (h : ℕ) → Least x y h → h ≤ 1000000 → InReach sporadic b h
+  pub reach_pair : (h : ℕ) → Least x y h → h ≤ 1000000 → InReach k b h
   reach_pair h l near =
-      let long = streams_pair in
+      let long = pair.two in
       record {
         some = omega arith;
         few = omega arith;
@@ -132,15 +126,15 @@ module _ (x y : Row) (b : Sporadic) (pair : Pair x y b) where
         near = near;
       }
 
-  fits_pair : (n : ℕ) → upto n (fits_test x y) ≡ true → (t : ℕ) → t < n → Fits sporadic b t
+  fits_pair : (n : ℕ) → upto n (fits_test x y) ≡ true → (t : ℕ) → t < n → Fits k b t
   fits_pair n e t l =
       let parts = and_parts (leb (pair_demand x y Normal t) t) (leb (pair_demand x y Overrun t) t) (upto_each n (fits_test x y) e t l) in
       (omega (arith, demand_pair Normal t, leb-true (pair_demand x y Normal t) t parts.0), omega (arith, demand_pair Overrun t, leb-true (pair_demand x y Overrun t) t parts.1))
 
-  point_pair : (p : Phase) (t : ℕ) → point_at sporadic b p t ≡ pair_point x y p t
+  point_pair : (p : Phase) (t : ℕ) → point_at k b p t ≡ pair_point x y p t
   point_pair p t = ap (λ (d : ℕ). record { phase = p; length = t; margin = pos t -ℤ pos d }) (demand_pair p t)
 
-  above_pair : (h : ℕ) (point : Point) → upto h (above_test x y point) ≡ true → (p : Phase) (t : ℕ) → t < h → point_below (point_at sporadic b p (t + 1)) point ≡ false
+  above_pair : (h : ℕ) (point : Point) → upto h (above_test x y point) ≡ true → (p : Phase) (t : ℕ) → t < h → point_below (point_at k b p (t + 1)) point ≡ false
   above_pair h point e p t l =
       let parts = and_parts (not (point_below (pair_point x y Normal (t + 1)) point)) (not (point_below (pair_point x y Overrun (t + 1)) point)) (upto_each h (above_test x y point) e t l) in
       ap (λ (q : Point). point_below q point) (point_pair p (t + 1)) ∙ elim p as (λ v. point_below (pair_point x y v (t + 1)) point ≡ false) [
@@ -149,11 +143,11 @@ module _ (x y : Row) (b : Sporadic) (pair : Pair x y b) where
       ]
 
   -- accepted, by a test of every length up to the horizon
-  pub accepts_pair : (v : Verdict) → Least x y v.horizon → v.horizon ≤ 1000000 → upto (v.horizon + 1) (fits_test x y) ≡ true → upto v.horizon (above_test x y v.point) ≡ true → v.lengths ≡ v.horizon + 1 → 1 ≤ v.point.length → v.point.length ≤ v.horizon → v.point ≡ pair_point x y v.point.phase v.point.length → AcceptsAll sporadic b v
+  pub accepts_pair : (v : Verdict) → Least x y v.horizon → v.horizon ≤ 1000000 → upto (v.horizon + 1) (fits_test x y) ≡ true → upto v.horizon (above_test x y v.point) ≡ true → v.lengths ≡ v.horizon + 1 → 1 ≤ v.point.length → v.point.length ≤ v.horizon → v.point ≡ pair_point x y v.point.phase v.point.length → AcceptsAll k b v
   accepts_pair v l near fits above lengths from to is =
       let reach = reach_pair v.horizon l near in
-      let all : (t : ℕ) → t ≤ v.horizon → Fits sporadic b t = λ t h. fits_pair (v.horizon + 1) fits t (omega arith) in
-      accepts_all sporadic b (ceiling_lawful (λ r. r) (states_in b)) v
+      let all : (t : ℕ) → t ≤ v.horizon → Fits k b t = λ t h. fits_pair (v.horizon + 1) fits t (omega arith) in
+      accepts_all k b (laws.ceilings b) v
       (record {
         reach = reach;
         fits = all;
@@ -164,18 +158,18 @@ module _ (x y : Row) (b : Sporadic) (pair : Pair x y b) where
           is = is ∙ sym (point_pair v.point.phase v.point.length);
           least = λ p t some within.
               let back : t - 1 + 1 ≡ t = omega arith in
-              subst (λ (n : ℕ). point_below (point_at sporadic b p n) v.point ≡ false) back (above_pair v.horizon v.point above p (t - 1) (omega arith));
+              subst (λ (n : ℕ). point_below (point_at k b p n) v.point ≡ false) back (above_pair v.horizon v.point above p (t - 1) (omega arith));
         };
       })
 
-  first_pair : (p : Phase) (t : ℕ) → first_test x y p t ≡ true → ExceedsFirst sporadic b p t
+  first_pair : (p : Phase) (t : ℕ) → first_test x y p t ≡ true → ExceedsFirst k b p t
   first_pair Normal t e = omega (arith, demand_pair Normal t, ltb-true t (pair_demand x y Normal t) e)
   first_pair Overrun t e =
       let parts = and_parts (leb (pair_demand x y Normal t) t) (ltb t (pair_demand x y Overrun t)) e in
       (omega (arith, demand_pair Normal t, leb-true (pair_demand x y Normal t) t parts.0), omega (arith, demand_pair Overrun t, ltb-true t (pair_demand x y Overrun t) parts.1))
 
   -- refused, by a test of every length up to the one that is exceeded
-  pub exceeds_pair : (v : Verdict) → Least x y v.horizon → v.horizon ≤ 1000000 → v.point.length ≤ v.horizon → upto v.point.length (fits_test x y) ≡ true → first_test x y v.point.phase v.point.length ≡ true → v.point ≡ pair_point x y v.point.phase v.point.length → v.lengths ≡ v.point.length + 1 → Exceeds sporadic b v
+  pub exceeds_pair : (v : Verdict) → Least x y v.horizon → v.horizon ≤ 1000000 → v.point.length ≤ v.horizon → upto v.point.length (fits_test x y) ≡ true → first_test x y v.point.phase v.point.length ≡ true → v.point ≡ pair_point x y v.point.phase v.point.length → v.lengths ≡ v.point.length + 1 → Exceeds k b v
   exceeds_pair v l near to fits over is lengths = record {
     reach = reach_pair v.horizon l near;
     upto = to;

@@ -9,14 +9,14 @@ use Rattle.bank.specs.Accepting.{Accepted}
 use Rattle.bank.specs.Kinds.{Kind}
 use Rattle.bank.specs.Runs.{done, tick}
 use Rattle.bank.proofs.Backs.{back_before}
-use Rattle.table.specs.Phases.{Until, next_wait, turned}
+use Rattle.table.specs.Phases.{Until, next_wait}
 use Rattle.table.specs.Rasters.{raster, raster_states}
 use Rattle.table.specs.Sporadics.{sporadic, states_in}
-use Rattle.table.specs.Tables.{states_of, state_of, record_of, opening_of, waiting, lowered, RecordState as State}
+use Rattle.table.specs.Tables.{states_of, state_of, record_of, opening_of, waiting, RecordState as State}
 use Rattle.table.specs.Waits.{every}
 use Rattle.table.specs.Openings.{opening_at, idle_is_open}
 use Rattle.table.specs.TablesLemmas.{state_of_map}
-use Rattle.table.proofs.Views.{record_viewed, opening_viewed, raster_ticked}
+use Rattle.table.proofs.Views.{record_viewed, opening_viewed, raster_ticked, lowered, turned}
 use Rattle.worked.specs.Plans.{Later}
 
 -- a kind over a table: a tick takes one off a wait

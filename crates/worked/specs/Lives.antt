@@ -1,6 +1,6 @@
 -- Runs of a worker on a bank of the lock and the preview, so that the law of runs is seen to speak of something.
 
-use Rattle.std.specs.Prelude.{◌≡◌, ℕ, true, false, List, [], ◌∷◌, ◌++◌, pos, None, Ok}
+use Rattle.std.specs.Prelude.{◌≡◌, ℕ, ◌≤◌, true, false, List, [], ◌∷◌, ◌++◌, pos, None, Ok}
 use Rattle.stream.specs.declared.Phase.{Phase}
 use Rattle.stream.specs.declared.Phase.TheVariants.{Normal, Overrun}
 use Rattle.stream.specs.declared.Row.{Row}
@@ -9,11 +9,11 @@ use Rattle.stream.specs.declared.limits.Record.{Record}
 use Rattle.table.specs.Sporadics.{sporadic, states_in, Sporadic}
 use Rattle.table.specs.Tables.{fresh as idle}
 use Rattle.turns.specs.Runs.{Call, release, pick, settle, calm, Heard, refused, granted, named, Run}
-use Rattle.turns.specs.Steps.{Started, fresh}
+use Rattle.turns.specs.Steps.{Started, fresh, last_moment}
 use Rattle.turns.specs.declared.State.{State}
 use Rattle.turns.specs.declared.Tally.{Tally}
 use Rattle.turns.specs.declared.Turn.TheVariants.{Of}
-use Rattle.worked.specs.Plans.{Pair, verdict}
+use Rattle.worked.specs.Plans.{both_released, rows, verdict}
 
 -- a turn of stream i, not done, and one that is done
 abbrev pub unfinished_turn : ℕ → List (Call × Heard)
@@ -22,9 +22,13 @@ unfinished_turn i = (pick, granted) ∷ (settle None false, named (Of i)) ∷ []
 abbrev pub last_turn : ℕ → List (Call × Heard)
 last_turn i = (pick, granted) ∷ (settle None true, named (Of i)) ∷ []
 
--- both released, and the lock needs more than its budget
+-- both released
+abbrev pub both_in : List (Call × Heard)
+both_in = (release 1, granted) ∷ (release 2, granted) ∷ []
+
+-- then the lock needs more than its budget
 abbrev pub to_the_switch : List (Call × Heard)
-to_the_switch = (release 1, granted) ∷ (release 2, granted) ∷ (unfinished_turn 1 ++ unfinished_turn 1)
+to_the_switch = both_in ++ (unfinished_turn 1 ++ unfinished_turn 1)
 
 -- the preview is refused, and the lock has two turns more
 abbrev pub to_the_end : List (Call × Heard)
@@ -46,8 +50,10 @@ abbrev pub LeadsTo : Sporadic → State → List (Call × Heard) → Phase → T
 LeadsTo b s calls mode counts = (c : Sporadic) × (t : State) × Run sporadic b s calls c t × (t.mode ≡ mode) × (t.tally ≡ counts)
 
 pub record Lived (lock preview : Row) : Type 0 where
-  -- a bank of these rows, begun at moment 0, is open, and so is the worker
-  pub opens : (bank : Sporadic) → Pair lock preview bank → (b : Sporadic) × Opened lock preview b × Started sporadic bank 0 b (fresh 0 (Ok (verdict 6 7 Normal 2 (pos 0))))
+  -- a bank of these rows, begun at any moment that is not too late, is open, and so is the worker
+  pub opens : (bank : Sporadic) (moment : ℕ) → rows (states_in bank) ≡ lock ∷ preview ∷ [] → moment ≤ last_moment → (b : Sporadic) × Opened lock preview b × Started sporadic bank moment b (fresh moment (Ok (verdict 6 7 Normal 2 (pos 0))))
+  -- at any moment both can be released
+  pub gets_both : (b : Sporadic) (v : Verdict) (moment : ℕ) → Opened lock preview b → (c : Sporadic) × Run sporadic b (fresh moment (Ok v)) both_in c (both_released lock preview moment (Ok v))
   -- a switch drops the preview; the lock finishes in the overrun; then it is calm
   pub switches : (b : Sporadic) (v : Verdict) → Opened lock preview b → LeadsTo b (fresh 0 (Ok v)) to_the_switch Overrun (tally 2 0 0 1)
   pub finishes : (b : Sporadic) (v : Verdict) → Opened lock preview b → LeadsTo b (fresh 0 (Ok v)) (to_the_switch ++ to_the_end) Overrun (tally 2 1 0 1)

@@ -1,6 +1,6 @@
 -- The words that the worked plans are told in.
 
-use Rattle.std.specs.Prelude.{◌≡◌, ℕ, List, [], ◌∷◌, map, replicate, ℤ, Result}
+use Rattle.std.specs.Prelude.{◌≡◌, ℕ, List, [], ◌∷◌, map, replicate, ℤ, Some, Result}
 use Rattle.stream.specs.declared.Class.TheVariants.{Critical, Background}
 use Rattle.stream.specs.declared.Phase.{Phase}
 use Rattle.stream.specs.declared.Refusal.{Refusal}
@@ -10,7 +10,12 @@ use Rattle.bank.specs.Kinds.{Kind}
 use Rattle.bank.specs.Runs.{Run, ticks}
 use Rattle.demand.specs.Demands.{demand}
 use Rattle.demand.specs.Verdicts.{Decided}
-use Rattle.table.specs.Sporadics.{sporadic, states_in, Sporadic}
+use Rattle.demand.specs.Published.{spaced}
+use Rattle.join.specs.Joins.{joined}
+use Rattle.join.specs.declared.Joined.{Joined}
+use Rattle.stream.specs.declared.limits.Record.{Record}
+use Rattle.table.specs.Rasters.{raster, Raster}
+use Rattle.table.specs.Sporadics.{sporadic, Sporadic}
 use Rattle.table.specs.Tables.{RecordState as State}
 use Rattle.turns.specs.Jobs.{released}
 use Rattle.turns.specs.Steps.{fresh, with_job}
@@ -27,17 +32,28 @@ background c T = record { class = Background; budget = c; certain = 0; short = T
 abbrev pub rows : List State → List Row
 rows states = map (λ s. s.stream.row) states
 
--- any sporadic bank of two streams with these rows, however long each waits
-abbrev pub Pair : Row → Row → Sporadic → Type 0
-Pair x y b = rows (states_in b) ≡ x ∷ y ∷ []
+-- stream i has this row
+abbrev pub Has : {S : Type 0} → Kind S → S → ℕ → Row → Type 0
+Has k b i x = (r : Record) × (k.records b i ≡ Some r) × (r.row ≡ x)
 
--- there is such a bank, and this is the answer on it
+-- Any bank of two streams with these rows, of whatever kind, that tells the ceilings of a table.
+pub record Pair {S : Type 0} (k : Kind S) (x y : Row) (b : S) : Type 0 where
+  pub two : k.streams b ≡ 2
+  pub first : Has k b 1 x
+  pub second : Has k b 2 y
+  pub ceilings : (i : ℕ) (r : Record) (m : ℕ) → k.records b i ≡ Some r → k.ceiling b i m ≡ spaced r.row m
+
+-- the bank that the lines of a plan make
+abbrev pub tables : Kind (Joined Sporadic Raster)
+tables = joined sporadic raster
+
+-- there is such a bank among those that a plan makes, and this is the answer on it
 abbrev pub JudgedPair : Row → Row → Result Verdict Refusal → Type 0
-JudgedPair x y answer = (b : Sporadic) × Pair x y b × Decided sporadic b answer
+JudgedPair x y answer = (b : Joined Sporadic Raster) × Pair tables x y b × Decided tables b answer
 
 -- the demands at lengths 0 to 6
-abbrev pub demands : Sporadic → Phase → List ℕ
-demands b p = map (demand sporadic b p) (0 ∷ 1 ∷ 2 ∷ 3 ∷ 4 ∷ 5 ∷ 6 ∷ [])
+abbrev pub demands : {S : Type 0} → Kind S → S → Phase → List ℕ
+demands k b p = map (demand k b p) (0 ∷ 1 ∷ 2 ∷ 3 ∷ 4 ∷ 5 ∷ 6 ∷ [])
 
 -- horizon, lengths looked at, and the point: phase, length, margin
 abbrev pub verdict : ℕ → ℕ → Phase → ℕ → ℤ → Verdict

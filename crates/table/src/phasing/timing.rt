@@ -2,7 +2,7 @@
 
 ghost use Rattle.std.specs.Prelude.{◌≡◌, ◌≤◌, MatchResult};
 ghost use Rattle.stream.specs.declared.Refusal.TheVariants.{PhaseOutOfLimits};
-ghost use Rattle.table.specs.Phases.{Until, next_wait};
+ghost use Rattle.table.specs.Phases.{next_on_raster, open_on_raster};
 ghost use Rattle.table.specs.WaitsLemmas.{turn_opens_no_more};
 
 use crate::phasing::OnRaster;
@@ -28,9 +28,9 @@ impl OnRaster {
 impl Timed for OnRaster {
     ghost recorded = { λ s. s.record };
 
-    ghost first_wait = { λ moment s wait. Until moment s.record.row.gap s.phase wait };
+    ghost first_wait = { open_on_raster };
 
-    ghost wait_after = { λ s wait. next_wait wait s.record.row.gap };
+    ghost wait_after = { next_on_raster };
 
     ghost alike = { λ s t. t.phase ≡ s.phase };
 

@@ -2,7 +2,7 @@
 
 ghost use Rattle.std.specs.Prelude.{◌≡◌, ◌+◌, ◌-◌, ◌<◌, ◌≤◌, length, MatchResult};
 ghost use Rattle.text.specs.Places.{out_of_shape};
-ghost use Rattle.text.specs.Reader.{bytes_left, line_number, ReadBy, RefusedBy, AllRead};
+ghost use Rattle.text.specs.Reader.{bytes_left, line_number, NoneRead, ReadBy, AllRead};
 ghost use Rattle.text.specs.Words.{Form};
 
 use crate::cursor::Cursor;
@@ -14,7 +14,7 @@ impl<'a> Reader<'a> {
     // One line of a form with its newline. Where the text is out of shape, the reader stays.
     #[tactic(auto, using(crate::proofs::Answering::shortens))]
     pub fn next<F: FromLine>(&mut self) -> Result<F, Fault>
-        ensures answer { MatchResult result (λ value. ReadBy F.bytes F.valid self.old value self.new) (λ fault. RefusedBy (Form F.bytes F.valid) self.old fault self.new) }
+        ensures answer { MatchResult result (λ value. ReadBy F.bytes F.valid self.old value self.new) (λ fault. NoneRead (Form F.bytes F.valid) self.old fault self.new) }
         ensures complete { AllRead F.bytes F.valid (bytes_left self.old) result }
     {
         let mut cursor = Cursor {

@@ -1,5 +1,5 @@
 use Rattle.std.proofs.Common.{◌≤◌}
-use Rattle.demand.specs.Multiples.{LeastMultiple}
+use Rattle.demand.proofs.Multiples.{LeastMultiple}
 use Rattle.demand.proofs.horizon.common_multiple.Given as goal
 
 abbrev pub invariant-loop-stream : goal.invariant-loop-stream

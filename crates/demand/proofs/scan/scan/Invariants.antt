@@ -2,7 +2,7 @@ use Rattle.std.proofs.Common.{◌≡◌, ℕ, ◌-◌, ◌<◌}
 use Rattle.stream.specs.declared.Phase.TheVariants.{Normal, Overrun}
 use Rattle.demand.specs.Demands.{Fits}
 use Rattle.demand.specs.Following.{Upto}
-use Rattle.demand.specs.Verdicts.{NearestSoFar}
+use Rattle.demand.proofs.Nearest.{NearestSoFar}
 use Rattle.demand.proofs.scan.scan.Given as goal
 
 abbrev pub invariant-loop-length : goal.invariant-loop-length
