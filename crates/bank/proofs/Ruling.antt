@@ -9,6 +9,7 @@ use Rattle.bank.specs.Kinds.{Kind}
 use Rattle.bank.specs.Laws.{Laws}
 use Rattle.bank.specs.Rules.{level, Rules, Whole}
 use Rattle.bank.proofs.Backs.{back_before, back_after}
+use Rattle.bank.proofs.Windows.{releases_opened, releases_within_ceiling}
 
 -- what is there is one record
 pub found : (o : Option Record) → is_some o ≡ true → (r : Record) × (o ≡ Some r)
@@ -69,7 +70,9 @@ rules_hold k l b i r e =
       some = law.some;
       few = law.few;
       within = λ m g. below_level (k.opening b i) (k.ceiling b i) (λ n. l.within b i r n g e) m;
-      ticked = λ c m g t. next_level (k.opening c i) (k.opening b i) (λ n. l.ticked b c i r n g e t) m;
-      accepted = λ c m from g o a. less_level (k.opening c i) (k.opening b i) (λ n. l.accepted b c i r n g e o a) m from;
-      others = λ c j m ne g a. below_level (k.opening c i) (k.opening b i) (λ n. l.others b c j i r n g e ne a) m;
+      ticked = λ c m t. next_level (k.opening c i) (k.opening b i) (λ n. l.ticked b c i r n e t) m;
+      accepted = λ c m from o a. less_level (k.opening c i) (k.opening b i) (λ n. l.accepted b c i r n e o a) m from;
+      others = λ c j m ne a. below_level (k.opening c i) (k.opening b i) (λ n. l.others b c j i r n e ne a) m;
+      accepted_within = λ m. releases_within_ceiling k l b i r m e;
+      still_to_come = λ m c window runs short. releases_opened k l i r m e runs short;
     }

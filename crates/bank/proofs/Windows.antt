@@ -40,25 +40,25 @@ one_at_most : (t : Bool) → cond t 1 0 ≤ 1
 one_at_most true = omega arith
 one_at_most false = omega arith
 
-pub releases_opened : {S : Type 0} (k : Kind S) (l : Laws k) {b d : S} {acts : List Act} (i : ℕ) (r : Record) (m : ℕ) → k.begun b → k.records b i ≡ Some r → Run k b acts d → moments acts ≤ m + 1 → releases i acts ≤ k.opening b i m
-releases_opened k l i r m g e done h = omega arith
-releases_opened k l i r m g e (tick {b} {c} {d} {acts} t run) h =
+pub releases_opened : {S : Type 0} (k : Kind S) (l : Laws k) {b d : S} {acts : List Act} (i : ℕ) (r : Record) (m : ℕ) → k.records b i ≡ Some r → Run k b acts d → moments acts ≤ m + 1 → releases i acts ≤ k.opening b i m
+releases_opened k l i r m e done h = omega arith
+releases_opened k l i r m e (tick {b} {c} {d} {acts} t run) h =
     let later = some_moment acts in
-    let rest : releases i acts ≤ k.opening c i (m - 1) = releases_opened k l i r (m - 1) (l.tick_begun b c g t) ((l.tick_keeps b c t).records i ∙ e) run (omega arith) in
-    let fall = l.ticked b c i r (m - 1) g e t in
+    let rest : releases i acts ≤ k.opening c i (m - 1) = releases_opened k l i r (m - 1) ((l.tick_keeps b c t).records i ∙ e) run (omega arith) in
+    let fall = l.ticked b c i r (m - 1) e t in
     let back : m - 1 + 1 ≡ m = omega arith in
     omega (arith, ap (k.opening b i) back)
-releases_opened k l i r m g e (accept {b} {c} {d} {i = j} {r = s} {acts} x o a run) h =
-    let rest : releases i acts ≤ k.opening c i m = releases_opened k l i r m (l.accept_begun b c j g a) ((l.accept_keeps b c j a).records i ∙ e) run h in
+releases_opened k l i r m e (accept {b} {c} {d} {i = j} {r = s} {acts} x o a run) h =
+    let rest : releases i acts ≤ k.opening c i m = releases_opened k l i r m ((l.accept_keeps b c j a).records i ∙ e) run h in
     let one = one_at_most (eqb j i) in
     ⊎_elim
     (λ (same : j ≡ i).
     let P : ℕ → Type 0 = λ n. k.opening c n m + 1 ≤ k.opening b n m in
-    let fall : k.opening c i m + 1 ≤ k.opening b i m = subst P same (l.accepted b c j s m g x o a) in
+    let fall : k.opening c i m + 1 ≤ k.opening b i m = subst P same (l.accepted b c j s m x o a) in
     omega arith)
     (λ (other : j ≡ i → ⊥).
     let none : cond {A = ℕ} (eqb j i) 1 0 ≡ 0 = ap (λ (t : Bool). cond {A = ℕ} t 1 0) (ne_eqb j i other) in
-    let fall = l.others b c j i r m g e (λ q. other (sym q)) a in
+    let fall = l.others b c j i r m e (λ q. other (sym q)) a in
     omega arith)
     (cases_eq j i)
 
@@ -67,7 +67,7 @@ releases_within_ceiling k l bank i r m e moment b c d before window g run runs h
     let same = same_then k (l.begin_keeps bank b moment g) (run_keeps k l run) in
     let started = run_begun k l (l.begin_begins bank b moment g) run in
     let found = same.records i ∙ e in
-    let some = releases_opened k l i r m started found runs h in
+    let some = releases_opened k l i r m found runs h in
     omega (arith, l.within c i r m started found, same.ceiling i m)
 
 spanned_none : (n : ℕ) → n ≡ 0 → spanned n ≡ Before
@@ -112,7 +112,7 @@ module _ {S : Type 0} (k : Kind S) (l : Laws k) (b : S) (i n most : ℕ) where
       omega (arith, is, releases_within_ceiling k l b i r (n - 1) found moment begun c d before window g run runs (omega arith))
 
   pub told_opens : told (k.records b i) (k.opening b i) (spanned n) ≡ Some most → AtMostToCome k b i n most
-  told_opens t = λ c window begun runs short.
+  told_opens t = λ c window runs short.
       let some = some_moment window in
       let (r, found, is) = told_at (k.opening b i) n most (k.records b i) (omega arith) t in
-      omega (arith, is, releases_opened k l i r (n - 1) begun found runs (omega arith))
+      omega (arith, is, releases_opened k l i r (n - 1) found runs (omega arith))

@@ -1,4 +1,4 @@
--- The rules that every bank keeps. What is said of openings is said from begin on.
+-- The rules that every bank keeps.
 
 use Rattle.std.specs.Prelude.{◌≡◌, ℕ, ◌+◌, ◌<◌, ◌≤◌, true, is_some, Some, ◌≢◌}
 use Rattle.stream.specs.declared.limits.Record.{Record}
@@ -28,10 +28,10 @@ pub record Laws {S : Type 0} (k : Kind S) : Type 0 where
   pub begin_begins : (b c : S) (moment : ℕ) → k.begins b moment c → k.begun c
   pub tick_begun : (b c : S) → k.begun b → k.ticks b c → k.begun c
   pub accept_begun : (b c : S) (i : ℕ) → k.begun b → k.accepts b i c → k.begun c
-  -- an opening is at most the ceiling
+  -- from begin on, an opening is at most the ceiling
   pub within : (b : S) (i : ℕ) (r : Record) (m : ℕ) → k.begun b → k.records b i ≡ Some r → k.opening b i m ≤ k.ceiling b i m
   -- after a tick O(m) is at most the former O(m + 1)
-  pub ticked : (b c : S) (i : ℕ) (r : Record) (m : ℕ) → k.begun b → k.records b i ≡ Some r → k.ticks b c → k.opening c i m ≤ k.opening b i (m + 1)
+  pub ticked : (b c : S) (i : ℕ) (r : Record) (m : ℕ) → k.records b i ≡ Some r → k.ticks b c → k.opening c i m ≤ k.opening b i (m + 1)
   -- an accepted release takes at least one off that stream's opening, and no other opening grows
-  pub accepted : (b c : S) (i : ℕ) (r : Record) (m : ℕ) → k.begun b → k.records b i ≡ Some r → 0 < k.opening b i 0 → k.accepts b i c → k.opening c i m + 1 ≤ k.opening b i m
-  pub others : (b c : S) (i j : ℕ) (r : Record) (m : ℕ) → k.begun b → k.records b j ≡ Some r → (j ≢ i) → k.accepts b i c → k.opening c j m ≤ k.opening b j m
+  pub accepted : (b c : S) (i : ℕ) (r : Record) (m : ℕ) → k.records b i ≡ Some r → 0 < k.opening b i 0 → k.accepts b i c → k.opening c i m + 1 ≤ k.opening b i m
+  pub others : (b c : S) (i j : ℕ) (r : Record) (m : ℕ) → k.records b j ≡ Some r → (j ≢ i) → k.accepts b i c → k.opening c j m ≤ k.opening b j m

@@ -13,13 +13,13 @@ module _ {S : Type 0} (k : Kind S) where
   pub record Ticks (b c : S) : Type 0 where
     pub same : Same k b c
     pub begun : k.begun b → k.begun c
-    pub opening : (i : ℕ) (r : Record) (m : ℕ) → k.begun b → k.records b i ≡ Some r → k.opening c i m ≤ k.opening b i (m + 1)
+    pub opening : (i : ℕ) (r : Record) (m : ℕ) → k.records b i ≡ Some r → k.opening c i m ≤ k.opening b i (m + 1)
 
   pub record Accepts (b : S) (i : ℕ) (c : S) : Type 0 where
     pub same : Same k b c
     pub begun : k.begun b → k.begun c
-    pub opening : (r : Record) (m : ℕ) → k.begun b → k.records b i ≡ Some r → 0 < k.opening b i 0 → k.opening c i m + 1 ≤ k.opening b i m
-    pub others : (j : ℕ) (r : Record) (m : ℕ) → k.begun b → k.records b j ≡ Some r → (j ≢ i) → k.opening c j m ≤ k.opening b j m
+    pub opening : (r : Record) (m : ℕ) → k.records b i ≡ Some r → 0 < k.opening b i 0 → k.opening c i m + 1 ≤ k.opening b i m
+    pub others : (j : ℕ) (r : Record) (m : ℕ) → k.records b j ≡ Some r → (j ≢ i) → k.opening c j m ≤ k.opening b j m
 
   -- what is asked is answered as before
   abbrev pub loosest : Kind S

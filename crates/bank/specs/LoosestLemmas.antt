@@ -21,7 +21,7 @@ module _ {S : Type 0} (k : Kind S) (l : Laws k) where
     tick_begun = λ b c on t. t.begun on;
     accept_begun = λ b c i on t. t.begun on;
     within = l.within;
-    ticked = λ b c i r m on e t. t.opening i r m on e;
-    accepted = λ b c i r m on e free t. t.opening r m on e free;
-    others = λ b c i j r m on e apart t. t.others j r m on e apart;
+    ticked = λ b c i r m e t. t.opening i r m e;
+    accepted = λ b c i r m e free t. t.opening r m e free;
+    others = λ b c i j r m e apart t. t.others j r m e apart;
   }

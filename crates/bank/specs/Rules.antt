@@ -4,6 +4,7 @@ use Rattle.std.specs.Prelude.{◌≡◌, ℕ, ◌+◌, ◌<◌, ◌≤◌, true,
 use Rattle.stream.specs.declared.limits.Record.{Record}
 use Rattle.bank.specs.Kinds.{Kind}
 use Rattle.bank.specs.Laws.{Same}
+use Rattle.bank.specs.Runs.{AtMost, AtMostToCome}
 
 pub record Whole {S : Type 0} (k : Kind S) (b : S) : Type 0 where
   -- at most 33 streams, numbered from 1, and no other
@@ -32,8 +33,11 @@ pub record Rules {S : Type 0} (k : Kind S) (b : S) (i : ℕ) (r : Record) : Type
   -- O(m) is at most N(m), from begin on
   pub within : (m : ℤ) → k.begun b → level (k.opening b i) m ≤ level (k.ceiling b i) m
   -- after a tick O(m) is at most the former O(m + 1)
-  pub ticked : (c : S) (m : ℤ) → k.begun b → k.ticks b c → level (k.opening c i) m ≤ level (k.opening b i) (m +ℤ pos 1)
+  pub ticked : (c : S) (m : ℤ) → k.ticks b c → level (k.opening c i) m ≤ level (k.opening b i) (m +ℤ pos 1)
   -- an accepted release: O(m) + 1 is at most the former O(m), for m from 0
-  pub accepted : (c : S) (m : ℤ) → pos 0 ≤ℤ m → k.begun b → 0 < k.opening b i 0 → k.accepts b i c → level (k.opening c i) m + 1 ≤ level (k.opening b i) m
+  pub accepted : (c : S) (m : ℤ) → pos 0 ≤ℤ m → 0 < k.opening b i 0 → k.accepts b i c → level (k.opening c i) m + 1 ≤ level (k.opening b i) m
   -- and no other opening grows
-  pub others : (c : S) (j : ℕ) (m : ℤ) → (i ≢ j) → k.begun b → k.accepts b j c → level (k.opening c i) m ≤ level (k.opening b i) m
+  pub others : (c : S) (j : ℕ) (m : ℤ) → (i ≢ j) → k.accepts b j c → level (k.opening c i) m ≤ level (k.opening b i) m
+  -- what they mean, at every m: N(m) bounds the releases accepted in any m + 1 consecutive moments from begin on, and O(m) those still to be accepted from this moment to m moments later
+  pub accepted_within : (m : ℕ) → AtMost k b i (m + 1) (k.ceiling b i m)
+  pub still_to_come : (m : ℕ) → AtMostToCome k b i (m + 1) (k.opening b i m)

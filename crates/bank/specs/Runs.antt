@@ -1,4 +1,4 @@
--- Runs of acts from begin on, and how many releases of a stream they accept. A refused release changes nothing, so a run may hold any number of them.
+-- Runs of acts, and how many releases of a stream they accept. A refused release changes nothing, so a run may hold any number of them.
 
 use Rattle.std.specs.Prelude.{◌≡◌, ℕ, ◌+◌, ◌<◌, ◌≤◌, cond, List, [], ◌∷◌, Some, ◌==◌}
 use Rattle.stream.specs.declared.limits.Record.{Record}
@@ -30,7 +30,7 @@ abbrev pub AtMost : {S : Type 0} → Kind S → S → ℕ → ℕ → ℕ → Ty
 AtMost {S} k bank i span most =
     (moment : ℕ) (b c d : S) (before window : List Act) → k.begins bank moment b → Run k b before c → Run k c window d → moments window ≤ span → releases i window ≤ most
 
--- From this moment on, in any so many moments of a bank that has begun, at most `most` releases of stream i are accepted.
+-- From this moment on, in any so many moments, at most `most` releases of stream i are accepted.
 abbrev pub AtMostToCome : {S : Type 0} → Kind S → S → ℕ → ℕ → ℕ → Type 0
 AtMostToCome {S} k b i span most =
-    (c : S) (window : List Act) → k.begun b → Run k b window c → moments window ≤ span → releases i window ≤ most
+    (c : S) (window : List Act) → Run k b window c → moments window ≤ span → releases i window ≤ most

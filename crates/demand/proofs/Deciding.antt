@@ -2,6 +2,7 @@
 
 use Rattle.std.proofs.Common.{◌≡◌, ℕ, ◌<◌, true, is_ok, Ok, Err, Result, sym, refl, ap, arith, MatchResult}
 use Rattle.std.proofs.lemmas.Bool.{false≢true}
+use Rattle.stream.specs.Refusals.{RefusedBy}
 use Rattle.stream.specs.declared.Refusal.{Refusal}
 use Rattle.stream.specs.declared.Refusal.TheVariants.{OutOfShape, TooManyStreams, SporadicAfterRaster, GapOutOfLimits, DeadlineOutOfLimits, BudgetOutOfLimits, ShortDeadlineOutOfLimits, PhaseOutOfLimits, NoStream, HorizonTooFar, DemandExceeded, MomentTooLate, FactorOutOfLimits, NoSuchStream, TurnOut, BackgroundInOverrun, NotOpen, NoTurnToSettle, JobWaits, AlreadyNormal, Shut, LastMoment}
 use Rattle.stream.specs.declared.Verdict.{Verdict}
@@ -83,6 +84,17 @@ module _ {S : Type 0} (k : Kind S) (b : S) where
   feasible_ok h reach fits (Ok v) a = refl
   feasible_ok h reach fits (Err e) r = absurd (not_refused h reach fits e (reason k b e r))
 
+  -- one within reach that is not feasible is refused by 11
+  by_demand : (h : ℕ) → InReach k b h → (e : Refusal) → Reason k b e → RefusedBy {X = Verdict} 11 (Err e)
+  by_demand h reach e (no_stream z) = let n : ⊥ = omega arith in absurd n
+  by_demand h reach e (too_many l) = let n : ⊥ = omega arith in absurd n
+  by_demand h reach e (too_far f) = absurd (not_far k b h reach f)
+  by_demand h reach e (exceeds v x) = (DemandExceeded v, refl, refl)
+
+  infeasible_refused : (h : ℕ) → InReach k b h → (Feasible k b → ⊥) → (answer : Result Verdict Refusal) → Says k b answer → RefusedBy 11 answer
+  infeasible_refused h reach bad (Ok v) a = absurd (bad a.feasible)
+  infeasible_refused h reach bad (Err e) r = by_demand h reach e (reason k b e r)
+
   pub judged : (answer : Result Verdict Refusal) → Says k b answer → Decided k b answer
   judged answer says = record {
     says = says;
@@ -91,6 +103,7 @@ module _ {S : Type 0} (k : Kind S) (b : S) where
       many = λ l. (TooManyStreams, sym (only_answer answer (Err TooManyStreams) says l), refl);
       far = λ f. (HorizonTooFar, sym (only_answer answer (Err HorizonTooFar) says f), refl);
       within = λ h reach. (ok_feasible answer says, λ fits. feasible_ok h reach fits answer says);
+      exceeded = λ h reach bad. infeasible_refused h reach bad answer says;
       only = λ other s. only_answer answer other says s;
     };
   }

@@ -21,7 +21,7 @@ greatest f from (suc count) = max (greatest f from count) (f (from + count))
 abbrev pub slack : Row → ℕ
 slack r = r.deadline - r.short
 
--- In an overrun, with n ticks left to a carried-over job: all jobs due ask for the certain budget, less what that job has done already.
+-- In an overrun, with n ticks left to a carried-over job: all jobs due ask for the certain budget, less what that job has done already. From the slack on that is at most the normal budget, and so at most what one job asks for: no difference stops at 0 but the inner one.
 unfoldable pub carrying : Row → (ℕ → ℕ) → ℕ → ℕ → ℕ
 carrying r N t n = N (t - n) * r.certain - (r.budget + slack r - n)
 

@@ -105,6 +105,7 @@ pub record ExactlyWhen {S : Type 0} (k : Kind S) (b : S) (answer : Result Verdic
   pub far : Far k b → RefusedBy 10 answer
   -- within reach it is accepted exactly if no demand exceeds any length at all
   pub within : (h : ℕ) → InReach k b h → (is_ok answer ≡ true) ↔ Feasible k b
+  pub exceeded : (h : ℕ) → InReach k b h → (Feasible k b → ⊥) → RefusedBy 11 answer
   -- no other answer says what is true of the bank
   pub only : (other : Result Verdict Refusal) → Says k b other → other ≡ answer
 

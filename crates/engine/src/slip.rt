@@ -4,7 +4,7 @@ ghost use Rattle.std.specs.Prelude.{◌≡◌};
 
 use stream::Refusal;
 
-// Void by a refusal, or good for the turn that is out. No `Result` of a slip is handed out in its place: pick always hands out a slip, and settle takes a void one too, a rule of this project.
+// Void by a refusal, or good for the turn that is out. No `Result` of a slip is handed out in its place: pick always hands out a slip, and settle takes a void one too.
 pub struct Slip {
     pub(crate) void: Option<Refusal>,
 }

@@ -403,6 +403,10 @@ mod tests {
         assert_eq!(rt; bank.shorten(0), Err(Shortfall::Factor));
         assert_eq!(rt; bank.shorten(1001), Err(Shortfall::Factor));
         assert_eq!(rt; bank.shorten(333), Err(Shortfall::Stream(1)));
+        assert_eq!(rt;
+            Shortfall::Factor.at_line(2),
+            Fault::at_line(Refusal::FactorOutOfLimits, Layer::Plan, 2)
+        );
         assert_eq!(rt; bank.shorten(999), Ok(()));
         assert_eq!(rt; (short_of(&bank, 1), short_of(&bank, 2)), (5, 6));
         Ok(())

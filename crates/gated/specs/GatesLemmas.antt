@@ -46,9 +46,9 @@ behind_gate_lawful k l = record {
   tick_begun = λ b c on t. l.tick_begun b.inner c.inner on t;
   accept_begun = λ b c i on t. l.accept_begun b.inner c.inner i on t.1;
   within = λ b i r m on e. omega (arith, behind_at_most b.gate (k.opening b.inner i) m, l.within b.inner i r m on e);
-  ticked = λ b c i r m on e t. omega (arith, behind_at_most c.gate (k.opening c.inner i) m, behind_later b.gate (k.opening b.inner i) m, l.ticked b.inner c.inner i r m on e t);
-  accepted = λ b c i r m on e free t. omega (arith, behind_at_most c.gate (k.opening c.inner i) m, behind_open b.gate (k.opening b.inner i) m t.0, l.accepted b.inner c.inner i r m on e (omega (arith, free, behind_open b.gate (k.opening b.inner i) 0 t.0)) t.1);
-  others = λ b c i j r m on e apart t. omega (arith, behind_at_most c.gate (k.opening c.inner j) m, behind_open b.gate (k.opening b.inner j) m t.0, l.others b.inner c.inner i j r m on e apart t.1);
+  ticked = λ b c i r m e t. omega (arith, behind_at_most c.gate (k.opening c.inner i) m, behind_later b.gate (k.opening b.inner i) m, l.ticked b.inner c.inner i r m e t);
+  accepted = λ b c i r m e free t. omega (arith, behind_at_most c.gate (k.opening c.inner i) m, behind_open b.gate (k.opening b.inner i) m t.0, l.accepted b.inner c.inner i r m e (omega (arith, free, behind_open b.gate (k.opening b.inner i) 0 t.0)) t.1);
+  others = λ b c i j r m e apart t. omega (arith, behind_at_most c.gate (k.opening c.inner j) m, behind_open b.gate (k.opening b.inner j) m t.0, l.others b.inner c.inner i j r m e apart t.1);
 }
 
 pub gated_lawful : {B : Type 0} (k : Kind B) → Laws k → Laws (gated k)

@@ -72,10 +72,10 @@ within_at k h l g b r m (Some (Left i)) on e = l.within b.left i r m on.0 e
 within_at k h l g b r m (Some (Right i)) on e = g.within b.right i r m on.1 e
 within_at k h l g b r m None on e = none_some r e
 
-ticked_at : {L R : Type 0} (k : Kind L) (h : Kind R) → Laws k → Laws h → (b c : Joined L R) (r : Record) (m : ℕ) (a : Option Part) → (joined k h).begun b → record_at k h b a ≡ Some r → (joined k h).ticks b c → opening_at k h c a m ≤ opening_at k h b a (m + 1)
-ticked_at k h l g b c r m (Some (Left i)) on e t = l.ticked b.left c.left i r m on.0 e t.0
-ticked_at k h l g b c r m (Some (Right i)) on e t = g.ticked b.right c.right i r m on.1 e t.1
-ticked_at k h l g b c r m None on e t = none_some r e
+ticked_at : {L R : Type 0} (k : Kind L) (h : Kind R) → Laws k → Laws h → (b c : Joined L R) (r : Record) (m : ℕ) (a : Option Part) → record_at k h b a ≡ Some r → (joined k h).ticks b c → opening_at k h c a m ≤ opening_at k h b a (m + 1)
+ticked_at k h l g b c r m (Some (Left i)) e t = l.ticked b.left c.left i r m e t.0
+ticked_at k h l g b c r m (Some (Right i)) e t = g.ticked b.right c.right i r m e t.1
+ticked_at k h l g b c r m None e t = none_some r e
 
 -- Accepting leaves both parts with their streams.
 accept_keeps_at : {L R : Type 0} (k : Kind L) (h : Kind R) → Laws k → Laws h → (b c : Joined L R) (a : Option Part) → accepts_at k h b a c → Same k b.left c.left × Same h b.right c.right
@@ -90,21 +90,21 @@ accept_begun_at k h l g b c (Some (Right i)) on t =
     (subst (λ s. k.begun s) (sym t.1) on.0, g.accept_begun b.right c.right i on.1 t.0)
 accept_begun_at k h l g b c None on t = absurd t
 
-accepted_at : {L R : Type 0} (k : Kind L) (h : Kind R) → Laws k → Laws h → (b c : Joined L R) (r : Record) (m : ℕ) (a : Option Part) → (joined k h).begun b → record_at k h b a ≡ Some r → 0 < opening_at k h b a 0 → accepts_at k h b a c → opening_at k h c a m + 1 ≤ opening_at k h b a m
-accepted_at k h l g b c r m (Some (Left i)) on e free t = l.accepted b.left c.left i r m on.0 e free t.0
-accepted_at k h l g b c r m (Some (Right i)) on e free t = g.accepted b.right c.right i r m on.1 e free t.0
-accepted_at k h l g b c r m None on e free t = none_some r e
+accepted_at : {L R : Type 0} (k : Kind L) (h : Kind R) → Laws k → Laws h → (b c : Joined L R) (r : Record) (m : ℕ) (a : Option Part) → record_at k h b a ≡ Some r → 0 < opening_at k h b a 0 → accepts_at k h b a c → opening_at k h c a m + 1 ≤ opening_at k h b a m
+accepted_at k h l g b c r m (Some (Left i)) e free t = l.accepted b.left c.left i r m e free t.0
+accepted_at k h l g b c r m (Some (Right i)) e free t = g.accepted b.right c.right i r m e free t.0
+accepted_at k h l g b c r m None e free t = none_some r e
 
 -- A stream of the other part is as it was.
-others_at : {L R : Type 0} (k : Kind L) (h : Kind R) → Laws k → Laws h → (b c : Joined L R) (i j : ℕ) (r : Record) (m : ℕ) (p q : Option Part) → Routed (k.streams b.left) i p → Routed (k.streams b.left) j q → (joined k h).begun b → record_at k h b q ≡ Some r → (j ≢ i) → accepts_at k h b p c → opening_at k h c q m ≤ opening_at k h b q m
-others_at k h l g b c i j r m _ _ (in_left x) (in_left y) on e apart t = l.others b.left c.left i j r m on.0 e apart t.0
-others_at k h l g b c i j r m _ _ (in_left x) (in_right y z) on e apart t = omega (arith, ap (λ s. h.opening s (j - k.streams b.left) m) t.1)
-others_at k h l g b c i j r m _ _ (in_left x) (past y z) on e apart t = none_some r e
-others_at k h l g b c i j r m _ _ (in_right x v) (in_left y) on e apart t = omega (arith, ap (λ s. k.opening s j m) t.1)
-others_at k h l g b c i j r m _ _ (in_right x v) (in_right y z) on e apart t =
-    g.others b.right c.right (i - k.streams b.left) (j - k.streams b.left) r m on.1 e (λ same. apart (omega arith)) t.0
-others_at k h l g b c i j r m _ _ (in_right x v) (past y z) on e apart t = none_some r e
-others_at k h l g b c i j r m _ _ (past x v) y on e apart t = absurd t
+others_at : {L R : Type 0} (k : Kind L) (h : Kind R) → Laws k → Laws h → (b c : Joined L R) (i j : ℕ) (r : Record) (m : ℕ) (p q : Option Part) → Routed (k.streams b.left) i p → Routed (k.streams b.left) j q → record_at k h b q ≡ Some r → (j ≢ i) → accepts_at k h b p c → opening_at k h c q m ≤ opening_at k h b q m
+others_at k h l g b c i j r m _ _ (in_left x) (in_left y) e apart t = l.others b.left c.left i j r m e apart t.0
+others_at k h l g b c i j r m _ _ (in_left x) (in_right y z) e apart t = omega (arith, ap (λ s. h.opening s (j - k.streams b.left) m) t.1)
+others_at k h l g b c i j r m _ _ (in_left x) (past y z) e apart t = none_some r e
+others_at k h l g b c i j r m _ _ (in_right x v) (in_left y) e apart t = omega (arith, ap (λ s. k.opening s j m) t.1)
+others_at k h l g b c i j r m _ _ (in_right x v) (in_right y z) e apart t =
+    g.others b.right c.right (i - k.streams b.left) (j - k.streams b.left) r m e (λ same. apart (omega arith)) t.0
+others_at k h l g b c i j r m _ _ (in_right x v) (past y z) e apart t = none_some r e
+others_at k h l g b c i j r m _ _ (past x v) y e apart t = absurd t
 
 -- After an act that keeps the left part's streams, a stream is where it was, and so its opening.
 opening_stays : {L R : Type 0} (k : Kind L) (h : Kind R) (b c : Joined L R) (i m : ℕ) → Same k b.left c.left → (joined k h).opening c i m ≡ opening_at k h c (place k b i) m
@@ -123,7 +123,7 @@ joined_lawful k h l g = record {
   tick_begun = λ b c on t. (l.tick_begun b.left c.left on.0 t.0, g.tick_begun b.right c.right on.1 t.1);
   accept_begun = λ b c i on t. accept_begun_at k h l g b c (place k b i) on t;
   within = λ b i r m on e. within_at k h l g b r m (place k b i) on e;
-  ticked = λ b c i r m on e t. omega (arith, opening_stays k h b c i m (l.tick_keeps b.left c.left t.0), ticked_at k h l g b c r m (place k b i) on e t);
-  accepted = λ b c i r m on e free t. omega (arith, opening_stays k h b c i m (accept_keeps_at k h l g b c (place k b i) t).0, accepted_at k h l g b c r m (place k b i) on e free t);
-  others = λ b c i j r m on e apart t. omega (arith, opening_stays k h b c j m (accept_keeps_at k h l g b c (place k b i) t).0, others_at k h l g b c i j r m (place k b i) (place k b j) (where_routed (k.streams b.left) i) (where_routed (k.streams b.left) j) on e apart t);
+  ticked = λ b c i r m e t. omega (arith, opening_stays k h b c i m (l.tick_keeps b.left c.left t.0), ticked_at k h l g b c r m (place k b i) e t);
+  accepted = λ b c i r m e free t. omega (arith, opening_stays k h b c i m (accept_keeps_at k h l g b c (place k b i) t).0, accepted_at k h l g b c r m (place k b i) e free t);
+  others = λ b c i j r m e apart t. omega (arith, opening_stays k h b c j m (accept_keeps_at k h l g b c (place k b i) t).0, others_at k h l g b c i j r m (place k b i) (place k b j) (where_routed (k.streams b.left) i) (where_routed (k.streams b.left) j) e apart t);
 }

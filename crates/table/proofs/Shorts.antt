@@ -9,13 +9,13 @@ use Rattle.std.specs.Option.{option_map}
 use Rattle.stream.specs.declared.limits.Record.{Record}
 use Rattle.table.specs.Shortening.{shortened, too_short, first_short, shortfall_of, AllShortened}
 use Rattle.table.specs.declared.shared.State.{State}
-use Rattle.table.specs.declared.shortening.Shortfall.TheVariants.{Factor, Stream}
+use Rattle.table.specs.declared.shortening.Shortfall.TheVariants.{Stream}
 use Rattle.table.proofs.Partly.{Partly, partly_all}
 use Rattle.table.specs.TablesLemmas.{none_not_some}
 
 module _ {S : Type 0} (recorded : S → Record) where
   -- a factor outside its limits is told before any stream
-  pub factor_outside : (factor : ℕ) (xs : List (State S)) → (1 ≤ factor → factor ≤ 1000 → ⊥) → shortfall_of recorded factor xs ≡ Some Factor
+  pub factor_outside : (factor : ℕ) (xs : List (State S)) → (1 ≤ factor → factor ≤ 1000 → ⊥) → shortfall_of recorded factor xs ≡ Some (13, None)
   factor_outside factor xs outside = grind arith
 
   -- the short deadline leaves room for the budget

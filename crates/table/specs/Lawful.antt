@@ -34,7 +34,7 @@ module _ {S : Type 0} (letter : ℕ) (recorded : S → Record) (first_wait : ℕ
     tick_begun = λ b c g e. tt;
     accept_begun = λ b c i g a. tt;
     within = λ b i r m g e. opening_within_ceiling recorded (states_of b.table) i m;
-    ticked = λ b c i r m g e t. ticked_opens_no_more recorded wait_after no_more (states_of b.table) (states_of c.table) i m t;
-    accepted = λ b c i r m g e free a. closing_takes_one recorded (states_of b.table) (states_of c.table) i m a free;
-    others = λ b c i j r m g e other a. omega (arith, closing_leaves_others recorded (states_of b.table) (states_of c.table) i j m a other);
+    ticked = λ b c i r m e t. ticked_opens_no_more recorded wait_after no_more (states_of b.table) (states_of c.table) i m t;
+    accepted = λ b c i r m e free a. closing_takes_one recorded (states_of b.table) (states_of c.table) i m a free;
+    others = λ b c i j r m e other a. omega (arith, closing_leaves_others recorded (states_of b.table) (states_of c.table) i j m a other);
   }

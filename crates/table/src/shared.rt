@@ -48,7 +48,7 @@ impl<S: Timed> State<S> {
     }
 }
 
-// The states of streams 1, 2 and so on, with a place for each that there may be, so that nothing allocates. It keeps no invariant, which is a rule of this project; so that an act keeps its size is said of each of the five acts, and `Timetable` keeps its bound by it.
+// The states of streams 1, 2 and so on, with a place for each that there may be, so that nothing allocates. It keeps no invariant, so that a method may change one state without owing more; that an act keeps its size is said of each of the five acts, and `Timetable` keeps its bound by it.
 #[derive(Drop)]
 pub(crate) struct Table<S> {
     states: ArrayVec<State<S>, MOST_STREAMS>,
@@ -117,7 +117,7 @@ impl<S: Timed> Table<S> {
         }
     }
 
-    // A moment later. By place, since accept and tick both change a state by one method: a rule of this project.
+    // A moment later. By place, since accept and tick both change a state by one method.
     pub(crate) fn tick_all(&mut self)
         ensures states { states_of self.new ≡ map (ticked S.wait_after) (states_of self.old) }
         ensures size { SameSize self.old self.new }

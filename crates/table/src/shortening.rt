@@ -1,11 +1,13 @@
 // Shorter short deadlines for critical streams: an overrun then finds more slack.
 
 ghost use Rattle.std.specs.Prelude.{◌≡◌, ◌≤◌, MatchResult};
+ghost use Rattle.stream.specs.Faults.{whole_line};
 ghost use Rattle.stream.specs.Refusals.{number};
-ghost use Rattle.table.specs.Shortening.{number_of, shortened, too_short};
+ghost use Rattle.stream.specs.declared.Layer.TheVariants.{Plan};
+ghost use Rattle.table.specs.Shortening.{shortened, told_of, too_short};
 ghost use Rattle.table.specs.declared.shortening.Shortfall.TheVariants.{Factor};
 
-use stream::{Class, Record, Refusal, Row};
+use stream::{Class, Fault, Layer, Record, Refusal, Row};
 
 // Why the streams of a table are not shortened: the factor, or the first stream whose short deadline would be below its budget.
 #[derive(Clone, Copy, PartialEq, Eq, Debug)]
@@ -15,13 +17,23 @@ pub enum Shortfall {
 }
 
 impl From<Shortfall> for Refusal {
-    ghost from_gives = { λ why refusal. number refusal ≡ number_of why };
+    ghost from_gives = { λ why refusal. number refusal ≡ (told_of why).0 };
 
     fn from(why: Shortfall) -> Refusal {
         match why {
             Shortfall::Factor => Refusal::FactorOutOfLimits,
             Shortfall::Stream(_) => Refusal::ShortDeadlineOutOfLimits,
         }
+    }
+}
+
+impl Shortfall {
+    // As a fault of the plan that has the streams, at a line of it.
+    pub fn at_line(self, line: u64) -> Fault
+        ensures number { number result.refusal ≡ (told_of self).0 }
+        ensures place { result ≡ whole_line result.refusal Plan line }
+    {
+        Fault::at_line(self.into(), Layer::Plan, line)
     }
 }
 

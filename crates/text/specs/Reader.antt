@@ -1,6 +1,7 @@
 -- A reader of lines: what it has before it, and what it answers.
 
 use Rattle.std.specs.Prelude.{◌≡◌, ℕ, ◌+◌, List, ◌++◌, length, Ok, Result}
+use Rattle.stream.specs.Refusals.{number}
 use Rattle.stream.specs.declared.Fault.{Fault}
 use Rattle.text.specs.declared.reader.Reader.{Reader}
 use Rattle.text.specs.Places.{out_of_shape}
@@ -26,6 +27,7 @@ pub record Misshapen (form : List ℕ → Type 0) (text : List ℕ) (line : ℕ)
   pub unread : List ℕ
   pub whole : text ≡ read ++ unread
   pub place : fault ≡ out_of_shape line (length read + 1)
+  pub told : number fault.refusal ≡ 1
   pub halts : Halts form read unread
 
 -- No line of the form was read, and the reader stays.

@@ -18,7 +18,7 @@ pub struct Cursor<'r, 'a> {
     ghost within: { length rest.now ≤ length (bytes_left reader.now) },
 }
 
-// The first byte as a character. Lines, calls, classes, reports and numbers are told apart by it, a case for each letter or digit: a rule of this project.
+// The first byte as a character. Lines, calls, classes, reports and numbers are told apart by it, a case for each letter or digit.
 fn head(text: &[u8]) -> Option<char>
     ensures { result ≡ slice_get text.now 0 }
 {

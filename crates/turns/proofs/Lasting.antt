@@ -138,8 +138,8 @@ module _ {S : Type 0} (k : Kind S) (laws : Laws k) (origin : S) (few : k.streams
         begun = laws.accept_begun b c i live.begun accepts;
         same = same_then k live.same (laws.accept_keeps b c i accepts);
         sane = sane_released plan (k.opening b) (k.opening c) s i r there (inside b live.begun live.same) live.sane empty_place (lasts s.mode r allowed.0) (none_is s.turn no_turn.0)
-            (λ m. laws.accepted b c i r m live.begun e some_open accepts)
-            (λ j q m z ne. laws.others b c i j q m live.begun (live.same.records j ∙ z) ne accepts);
+            (λ m. laws.accepted b c i r m e some_open accepts)
+            (λ j q m z ne. laws.others b c i j q m (live.same.records j ∙ z) ne accepts);
         tracks = tracks_new R s l i r range.0 (omega arith) there live.sane.room empty_place live.tracks;
       }
 
@@ -174,7 +174,7 @@ module _ {S : Type 0} (k : Kind S) (laws : Laws k) (origin : S) (few : k.streams
       record {
         begun = now_begun;
         same = now_same;
-        sane = sane_ended plan (k.opening b) (k.opening c) s (inside c now_begun now_same) (λ n q m z. laws.ticked b c n q m live.begun (live.same.records n ∙ z) ticks) live.sane i some in_range j is next end says;
+        sane = sane_ended plan (k.opening b) (k.opening c) s (inside c now_begun now_same) (λ n q m z. laws.ticked b c n q m (live.same.records n ∙ z) ticks) live.sane i some in_range j is next end says;
         tracks = subst (λ (x : End). Tracks R (ended (ticked s) i (worked j) end) (record { mode = mode_after x l.mode; entries = left_after R x (map (served i x) (map older l.entries)) })) (sym ledger_end)
             (tracks_ended R (ticked s) (record { mode = l.mode; entries = map older l.entries }) live.sane.room (tracks_older R s l live.tracks) i some in_range r known.1 j is known.2 (λ n o x y z. job_rows b s l live n o x y z) end (λ z. cut_leaves s.mode r j known.2 (subst (Says s.mode j.row (j.units + 1)) z says)));
       }

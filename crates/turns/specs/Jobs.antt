@@ -18,7 +18,7 @@ term Overrun r = r.deadline
 abbrev pub deadline_of : Phase → Job → ℕ
 deadline_of mode j = j.since + term mode j.row
 
--- the job of a stream, if one waits; stream 1 is the first of the list
+-- the job of a stream, if one waits; stream 1 is the first of the list, and is meant by 0 too, which no stream has
 abbrev pub job_of : List (Option Job) → ℕ → Option Job
 job_of jobs i = slice_index_or jobs (i - 1) None
 

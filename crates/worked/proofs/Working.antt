@@ -101,11 +101,11 @@ worked k laws = record {
   overrun = λ b pair. demands_pair k laws (critical 4 2) (background 3 6) b pair Overrun;
   accepted = λ b pair. accepts_pair k laws (critical 4 2) (background 3 6) b pair (verdict 6 7 Normal 2 (pos 0)) (least_six 4 2 3) (omega arith) refl refl refl (omega arith) (omega arith) refl;
   budget_four = λ b pair. accepts_pair k laws (critical 4 2) (background 4 6) b pair (verdict 6 7 Normal 2 (pos 0)) (least_six 4 2 4) (omega arith) refl refl refl (omega arith) (omega arith) refl;
-  budget_five = λ b pair. exceeds_pair k laws (critical 4 2) (background 5 6) b pair (verdict 6 7 Normal 6 (negsuc 0)) (least_six 4 2 5) (omega arith) (omega arith) refl refl refl refl;
+  budget_five = λ b pair. (exceeds_pair k laws (critical 4 2) (background 5 6) b pair (verdict 6 7 Normal 6 (negsuc 0)) (least_six 4 2 5) (omega arith) (omega arith) refl refl refl refl, refl);
   certain_six = λ b pair. accepts_pair k laws (critical 6 2) (background 3 6) b pair (verdict 6 7 Normal 2 (pos 0)) (least_six 6 2 3) (omega arith) refl refl refl (omega arith) (omega arith) refl;
   certain_six_asks = λ b pair. demands_pair k laws (critical 6 2) (background 3 6) b pair Overrun;
-  short_three = λ b pair. exceeds_pair k laws (critical 6 3) (background 3 6) b pair (verdict 6 4 Overrun 3 (negsuc 0)) (least_six 6 3 3) (omega arith) (omega arith) refl refl refl refl;
-  short_six = λ b pair. exceeds_pair k laws (critical 4 6) (background 3 6) b pair (verdict 6 1 Overrun 0 (negsuc 1)) (least_six 4 6 3) (omega arith) (omega arith) refl refl refl refl;
+  short_three = λ b pair. (exceeds_pair k laws (critical 6 3) (background 3 6) b pair (verdict 6 4 Overrun 3 (negsuc 0)) (least_six 6 3 3) (omega arith) (omega arith) refl refl refl refl, refl);
+  short_six = λ b pair. (exceeds_pair k laws (critical 4 6) (background 3 6) b pair (verdict 6 1 Overrun 0 (negsuc 1)) (least_six 4 6 3) (omega arith) (omega arith) refl refl refl refl, refl);
   horizon_near = λ b pair. reach_pair k laws (background 1 999) (background 1 1000) b pair 999000 least_near (omega arith);
   horizon_far = λ b pair. (far_off k laws b pair, refl);
   too_soon = λ bank b c d answer pair accepts run accepted. let w = closed_for_six bank b pair accepts in refused_then sporadic states_in sporadic_tabled 1 w.0 5 6 b c d answer w.1 run (omega arith) accepted;

@@ -3,13 +3,15 @@
 use Rattle.std.specs.Prelude.{◌≡◌, ℕ, List, [], ◌∷◌, map, replicate, ℤ, Some, Result}
 use Rattle.stream.specs.declared.Class.TheVariants.{Critical, Background}
 use Rattle.stream.specs.declared.Phase.{Phase}
+use Rattle.stream.specs.Refusals.{number}
 use Rattle.stream.specs.declared.Refusal.{Refusal}
+use Rattle.stream.specs.declared.Refusal.TheVariants.{DemandExceeded}
 use Rattle.stream.specs.declared.Row.{Row}
 use Rattle.stream.specs.declared.Verdict.{Verdict}
 use Rattle.bank.specs.Kinds.{Kind}
 use Rattle.bank.specs.Runs.{Run, ticks}
 use Rattle.demand.specs.Demands.{demand}
-use Rattle.demand.specs.Verdicts.{Decided}
+use Rattle.demand.specs.Verdicts.{Decided, Refuses}
 use Rattle.demand.specs.Published.{spaced}
 use Rattle.join.specs.Joins.{joined}
 use Rattle.join.specs.declared.Joined.{Joined}
@@ -58,6 +60,10 @@ demands k b p = map (demand k b p) (0 ∷ 1 ∷ 2 ∷ 3 ∷ 4 ∷ 5 ∷ 6 ∷ []
 -- horizon, lengths looked at, and the point: phase, length, margin
 abbrev pub verdict : ℕ → ℕ → Phase → ℕ → ℤ → Verdict
 verdict h n p t margin = record { horizon = h; lengths = n; point = record { phase = p; length = t; margin = margin } }
+
+-- refused by 11, with this verdict
+abbrev pub Over : {S : Type 0} → Kind S → S → Verdict → Type 0
+Over k b v = Refuses k b (DemandExceeded v) × (number (DemandExceeded v) ≡ 11)
 
 -- so many ticks on
 abbrev pub Later : {S : Type 0} → Kind S → ℕ → S → S → Type 0

@@ -9,7 +9,7 @@ use Rattle.stream.specs.declared.Row.{Row}
 use Rattle.stream.specs.declared.Verdict.{Verdict}
 use Rattle.bank.specs.Accepting.{Accepted}
 use Rattle.bank.specs.Kinds.{Kind}
-use Rattle.demand.specs.Verdicts.{InReach, AcceptsAll, Exceeds, Refuses}
+use Rattle.demand.specs.Verdicts.{InReach, AcceptsAll, Refuses}
 use Rattle.table.specs.Rasters.{raster, raster_states, phases_in, Raster}
 use Rattle.table.specs.Sporadics.{sporadic, states_in, Sporadic}
 use Rattle.turns.specs.Jobs.{released}
@@ -19,7 +19,7 @@ use Rattle.turns.specs.declared.Job.{Job}
 use Rattle.turns.specs.declared.State.{State as Worker}
 use Rattle.turns.specs.declared.Turn.{Turn}
 use Rattle.turns.specs.declared.Turn.TheVariants.{Of}
-use Rattle.worked.specs.Plans.{critical, background, rows, Pair, demands, verdict, Later, both_released}
+use Rattle.worked.specs.Plans.{critical, background, rows, Pair, Over, demands, verdict, Later, both_released}
 
 pub record Worked {S : Type 0} (k : Kind S) (lock preview : Row) : Type 0 where
   -- (S H (2 4) (2 6) 6) and (S L (3 0) (6 6) 6)
@@ -30,13 +30,13 @@ pub record Worked {S : Type 0} (k : Kind S) (lock preview : Row) : Type 0 where
   pub accepted : (b : S) → Pair k lock preview b → AcceptsAll k b (verdict 6 7 Normal 2 (pos 0))
   -- a background budget of 4 still fits, one of 5 does not
   pub budget_four : (b : S) → Pair k lock (background 4 6) b → AcceptsAll k b (verdict 6 7 Normal 2 (pos 0))
-  pub budget_five : (b : S) → Pair k lock (background 5 6) b → Exceeds k b (verdict 6 7 Normal 6 (negsuc 0))
+  pub budget_five : (b : S) → Pair k lock (background 5 6) b → Over k b (verdict 6 7 Normal 6 (negsuc 0))
   -- a certain budget of 6 is just served, but not with a short deadline of 3
   pub certain_six : (b : S) → Pair k (critical 6 2) preview b → AcceptsAll k b (verdict 6 7 Normal 2 (pos 0))
   pub certain_six_asks : (b : S) → Pair k (critical 6 2) preview b → demands k b Overrun ≡ 0 ∷ 0 ∷ 0 ∷ 0 ∷ 4 ∷ 5 ∷ 6 ∷ []
-  pub short_three : (b : S) → Pair k (critical 6 3) preview b → Exceeds k b (verdict 6 4 Overrun 3 (negsuc 0))
+  pub short_three : (b : S) → Pair k (critical 6 3) preview b → Over k b (verdict 6 4 Overrun 3 (negsuc 0))
   -- without slack length 0 is exceeded already
-  pub short_six : (b : S) → Pair k (critical 4 6) preview b → Exceeds k b (verdict 6 1 Overrun 0 (negsuc 1))
+  pub short_six : (b : S) → Pair k (critical 4 6) preview b → Over k b (verdict 6 1 Overrun 0 (negsuc 1))
   -- the horizon of the gaps 999 and 1,000 is within reach, that of 1,000 and 1,001 is not
   pub horizon_near : (b : S) → Pair k (background 1 999) (background 1 1000) b → InReach k b 999000
   pub horizon_far : (b : S) → Pair k (background 1 1000) (background 1 1001) b → Refuses k b HorizonTooFar × (number HorizonTooFar ≡ 10)

@@ -4,13 +4,16 @@ ghost use Rattle.std.specs.Prelude.{◌≡◌, [], length};
 ghost use Rattle.stream.specs.Rooms.{RoomTold};
 ghost use Rattle.table.specs.Growing.{Grown, GrownOn};
 ghost use Rattle.table.specs.Tables.{states_of};
+ghost use Rattle.table.specs.Rasters.{raster};
 ghost use Rattle.table.specs.Shortening.{Shortening};
+ghost use Rattle.table.specs.Sporadics.{sporadic};
 
 use crate::phasing::OnRaster;
 use crate::shared::Table;
 use crate::shortening::{Shortfall, Thousandths};
 use crate::timed::Timed;
 use crate::timetable::Timetable;
+use bank::Bank;
 use stream::{Record, Refusal, room_for_more};
 
 impl<S: Timed> Timetable<S> {
@@ -43,7 +46,8 @@ impl<S: Timed> Timetable<S> {
 impl Timetable<Record> {
     // Adds a stream as the last one, if there are fewer than 32.
     pub fn grow(&mut self, stream: Record) -> Result<(), Refusal>
-        ensures { Grown self.old stream result self.new }
+        ensures grown { Grown self.old stream result self.new }
+        ensures letter { ⟦<Timetable<Record> as Bank>⟧.LETTER ≡ sporadic.letter }
     {
         self.has_room()?;
         self.table.push(stream);
@@ -54,7 +58,8 @@ impl Timetable<Record> {
 impl Timetable<OnRaster> {
     // Adds a stream as the last one, if there are fewer than 32 and its phase is below its gap. One function with the other `grow` would have to be told how a stream is made, and with which refusal.
     pub fn grow(&mut self, stream: Record, phase: u64) -> Result<(), Refusal>
-        ensures { GrownOn self.old stream phase result self.new }
+        ensures grown { GrownOn self.old stream phase result self.new }
+        ensures letter { ⟦<Timetable<OnRaster> as Bank>⟧.LETTER ≡ raster.letter }
     {
         self.has_room()?;
         let timed = OnRaster::new(stream, phase)?;

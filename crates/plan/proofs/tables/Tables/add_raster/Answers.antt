@@ -17,9 +17,9 @@ returns c =
     let is = c.in_ok-record.ensures.holds in
     ⊎_elim
     (λ (in_gap : c.args.phase < stream.row.gap).
-    let there = c.grow.ensures.added (omega (arith, c.in_ok-has_room.ensures)) in_gap in
+    let there = c.grow.ensures.grown.added (omega (arith, c.in_ok-has_room.ensures)) in_gap in
     rw (there.0, there.2, there.1) (raster_added stream c.in_ok-has_room.ensures is (rw is at in_gap)))
     (λ (past : stream.row.gap ≤ c.args.phase).
-    let ((e, told, numbered), same) = c.grow.ensures.outside (omega (arith, c.in_ok-has_room.ensures)) past in
+    let ((e, told, numbered), same) = c.grow.ensures.grown.outside (omega (arith, c.in_ok-has_room.ensures)) past in
     rw (told, same) (raster_unphased stream c.in_ok-has_room.ensures is (rw is at past) numbered))
     (cases_lt c.args.phase stream.row.gap)

@@ -16,5 +16,5 @@ returns-in_err-record c =
 
 pub returns : goal.returns
 returns c =
-    let there = c.grow.ensures.added (omega (arith, c.in_ok-has_room.ensures)) in
+    let there = c.grow.ensures.grown.added (omega (arith, c.in_ok-has_room.ensures)) in
     rw (there.0, there.1) (sporadic_added c.in_ok-record.record c.in_ok-has_room.ensures (omega (arith, raster_size c.args.self.now.raster)) c.in_ok-record.ensures.holds)
