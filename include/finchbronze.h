@@ -7,7 +7,7 @@
  * Of both calls: `text` is not null, even if `length` is 0; the bytes need no
  * closing 0, are not changed, and are not kept after the call. Calls share
  * nothing, so threads may call at the same time, each with a buffer of its
- * own. All memory is given back before the answer. docs/FORMAT.md has the
+ * own. Neither allocates: all memory is on the stack. docs/FORMAT.md has the
  * forms of text, docs/REFUSALS.md the numbers. */
 
 #ifndef FINCHBRONZE_H
@@ -43,9 +43,7 @@ extern "C" {
  *      8  a phase out of limits
  *      9  no stream
  *     10  a horizon above 1,000,000
- *     11  a demand that exceeds a length of time
- *
- * It needs no memory of the heap, so there is no answer for want of it. */
+ *     11  a demand that exceeds a length of time */
 int64_t check(const uint8_t *text, size_t length);
 
 /* The longest text that replay reads, in bytes. */
@@ -71,7 +69,6 @@ static inline size_t replay_room(const uint8_t *text, size_t length)
  *
  *    -22  a text above FINCHBRONZE_LONGEST_TEXT bytes
  *    -21  a buffer with less room than replay_room tells
- *     -1  no memory
  *
  * A plan that may not run and a call that is refused are told in the answers:
  * a line (refused ..) with number, layer and place. */

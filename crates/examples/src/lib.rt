@@ -2,6 +2,7 @@
 
 #![tactic(auto)]
 
+mod answers;
 #[cfg(test)]
 mod plans;
 #[cfg(test)]
@@ -14,12 +15,12 @@ mod tests {
     use bank::{Bank, most_accepted};
     use demand::{admit, demand_at, load, sporadic_share};
     use join::Joined;
-    use plan::{Answers, Tables, open_plan};
-    use script::{Unwritten, check, replay, replay_into};
+    use plan::{Tables, open_plan, tell};
+    use script::{Unwritten, check, replay, replayed};
     use std::alloc::Global;
     use std::process::Abort;
     use std::test::Fail;
-    use stream::{MOST_STREAMS, Phase, Point, Record, Refusal};
+    use stream::{Fault, Layer, MOST_STREAMS, Phase, Point, Record, Refusal};
     use table::{Raster, Shortfall, Sporadic};
     use text::{Answer, Reader};
     use worked::{LOCK, PREVIEW};
@@ -67,8 +68,8 @@ mod tests {
 
     fn all_replay(rt: &impl Abort, heap: Global, cases: &[(&str, &str)]) -> Result<(), Fail> {
         for (text, answer) in cases {
-            let written = replay(heap, text.as_bytes())?;
-            assert_eq!(rt; written.as_str(), *answer, "{}", text);
+            let written = replayed(heap, text.as_bytes())?;
+            assert_eq!(rt; str::from_utf8(&written), Ok(*answer), "{}", text);
         }
         Ok(())
     }
@@ -190,16 +191,12 @@ mod tests {
             "(S L (1 0) (2 2) 0)\n",
         ] {
             let text = format!(in rt.alloc(); "{full}{last}(go 0)\n")?;
-            assert_eq!(rt;
-                replay(rt.alloc(), text.as_bytes())?.as_str(),
-                "(refused 2 P (33 0))\n"
-            );
+            let written = replayed(rt.alloc(), text.as_bytes())?;
+            assert_eq!(rt; str::from_utf8(&written), Ok("(refused 2 P (33 0))\n"));
         }
         let text = "(R L (1 0) (2 2) 2 0)\n(S L (1 0) (2 2) 0)\n(go 0)\n";
-        assert_eq!(rt;
-            replay(rt.alloc(), text.as_bytes())?.as_str(),
-            "(refused 3 P (2 0))\n"
-        );
+        let written = replayed(rt.alloc(), text.as_bytes())?;
+        assert_eq!(rt; str::from_utf8(&written), Ok("(refused 3 P (2 0))\n"));
         Ok(())
     }
 
@@ -222,6 +219,26 @@ mod tests {
         all_replay(&rt, rt.alloc(), &cases)
     }
 
+    // A text of 65,536 bytes is answered, and with a byte more it is not.
+    #[test]
+    fn the_longest_text(rt: HostRuntime) -> Result<(), Fail> {
+        let mut text = String::new(rt.alloc());
+        text.push_str("(S L (1 0) (2 2) 2)\n(go 0)\n")?;
+        for _ in 0..6541 {
+            text.push_str("(turn no)\n")?;
+        }
+        for _ in 0..9 {
+            text.push_str("(turn yes)\n")?;
+        }
+        let answers = replayed(rt.alloc(), text.as_bytes())?;
+        assert_eq!(rt; text.len(), 65536);
+        assert!(rt; answers.starts_with(b"(accepted 2 3 (normal 1 1))\n(ran 0 idle)\n"));
+        assert!(rt; answers.ends_with(b"(ran 0 idle)\n(total 0 0 0 0 0)\n"));
+        text.push_str("\n")?;
+        assert!(rt; replayed(rt.alloc(), text.as_bytes())?.is_empty());
+        Ok(())
+    }
+
     // What is told of a buffer of sevens with so much room, and the buffer then.
     fn in_room(
         heap: Global,
@@ -229,7 +246,7 @@ mod tests {
         room: usize,
     ) -> Result<(Result<usize, Unwritten>, Vec<u8>), Fail> {
         let mut buffer = Vec::from_elem(heap, 7u8, room)?;
-        let told = replay_into(heap, text, &mut buffer);
+        let told = replay(text, &mut buffer);
         Ok((told, buffer))
     }
 
@@ -263,9 +280,13 @@ mod tests {
     fn a_plan_is_opened_and_told(rt: HostRuntime) -> Result<(), Fail> {
         let mut reader = Reader::new(b"(S L (1 0) (2 2) 2)\n(go 0)\n");
         let verdict = open_plan(&mut reader, Tables::new())?.verdict;
-        let mut answers = Answers::new(rt.alloc());
-        answers.tell(Answer::Accepted(verdict))?;
-        assert_eq!(rt; answers.lines.as_str(), "(accepted 2 3 (normal 1 1))\n");
+        let mut buffer = [b'-'; 40];
+        let written = tell(Answer::Accepted(verdict), &mut buffer, 2);
+        assert_eq!(rt; (written, tell(Answer::Calm(7), &mut buffer, 33)), (30, 33));
+        assert_eq!(rt;
+            str::from_utf8(&buffer),
+            Ok("--(accepted 2 3 (normal 1 1))\n----------")
+        );
         Ok(())
     }
 

@@ -2,9 +2,11 @@
 
 #![tactic(auto)]
 
-ghost use Rattle.std.specs.Prelude.{◌<◌, IfSome, length};
+ghost use Rattle.std.specs.Prelude.{◌≡◌, ◌<◌, IfOk, IfSome, length, true};
+ghost use Rattle.script.specs.Checks.{Checked};
+ghost use Rattle.script.specs.Replays.{ReplayedUpto};
 
-use script::{check, replay};
+use script::{check, replayed};
 use std::alloc::{AllocError, Global};
 use std::io::{Read, Write};
 
@@ -49,9 +51,12 @@ fn next_case<'a>(container: &'a [u8]) -> Option<(Case<'a>, &'a [u8])>
     ))
 }
 
-fn matches(heap: Global, case: &Case) -> Result<bool, AllocError> {
-    let printed = replay(heap, case.text)?;
-    Ok(check(case.text) == case.number && printed.as_bytes() == case.printed)
+// A case that matches has the number that check answers, and what replay writes.
+fn matches(heap: Global, case: &Case) -> Result<bool, AllocError>
+    ensures { IfOk result (λ same. same ≡ true → Checked case.now.text.now case.now.number × ReplayedUpto case.now.text.now case.now.printed.now) }
+{
+    let printed = replayed(heap, case.text)?;
+    Ok(check(case.text) == case.number && printed.as_slice() == case.printed)
 }
 
 fn main(rt: HostRuntime) -> anyhow::Result<()> {

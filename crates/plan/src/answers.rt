@@ -1,30 +1,19 @@
 // Writing answers.
 
-ghost use Rattle.std.specs.Prelude.{◌≡◌, [], ◌++◌, string_bytes, OnOk};
-ghost use Rattle.plan.specs.Written.{line_of};
+ghost use Rattle.std.specs.Prelude.{◌≡◌};
+ghost use Rattle.plan.specs.Written.{Told, line_of};
 
-use std::alloc::{AllocError, Global};
 use text::Answer;
 
-// Where the answers are written, one to a line.
-#[derive(Drop)]
-pub struct Answers {
-    pub lines: String,
-}
-
-impl Answers {
-    // Nothing is told yet.
-    pub fn new(heap: Global) -> Answers
-        ensures { string_bytes result.lines ≡ [] }
-    {
-        Answers {
-            lines: String::new(heap),
-        }
+// Writes an answer in a line of its own behind so many bytes of a buffer, if it has room there; and says how many bytes are written then.
+pub fn tell(answer: Answer, buffer: &mut [u8], written: usize) -> usize
+    ensures { Told buffer.old written (line_of answer) buffer.new result }
+{
+    let line = answer.line();
+    if buffer.len().saturating_sub(written) < line.len() {
+        return written;
     }
-
-    pub fn tell(&mut self, answer: Answer) -> Result<(), AllocError>
-        ensures { OnOk result (string_bytes self.new.lines ≡ string_bytes self.old.lines ++ line_of answer) }
-    {
-        writeln!(self.lines, "{answer}")
-    }
+    let end = written + line.len();
+    buffer[written..end].copy_from_slice(line.as_bytes());
+    end
 }

@@ -7,7 +7,7 @@ mod opening;
 mod reading;
 mod tables;
 
-pub use answers::Answers;
+pub use answers::tell;
 pub use opening::{Opening, open_plan};
 pub use reading::{Start, read_plan};
 pub use tables::{PlanBank, Tables};

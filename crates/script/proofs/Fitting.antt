@@ -1,6 +1,6 @@
 -- The answers to a text have room in a buffer that has 80 bytes for each of its newlines and for two lines more.
 
-use Rattle.std.proofs.Common.{◌∙◌, ◌≡◌, ℕ, ◌+◌, ◌*◌, ◌≤◌, ◌<◌, List, [], ◌∷◌, length, codes, None, Option, sym, ap, subst, ⊎_elim, lit≤, arith, length-append, true, false}
+use Rattle.std.proofs.Common.{◌∙◌, ◌≡◌, ℕ, ◌+◌, ◌*◌, ◌≤◌, ◌<◌, List, [], ◌∷◌, ◌++◌, length, drop, codes, None, Option, Ok, refl, sym, ap, subst, ⊎_elim, lit≤, arith, length-append, true, false}
 use Rattle.std.proofs.lemmas.Bool.{cases_lt}
 use Rattle.std.proofs.lemmas.List.{length-replicate}
 use Rattle.std.specs.List.{AllByRecursion}
@@ -29,9 +29,9 @@ use Rattle.script.proofs.Accounting.{line_run}
 use Rattle.script.proofs.Sizes.{accepted_small, refused_small}
 use Rattle.script.proofs.Spans.{numbered_pointless, Near, newlines_append, numbered_newline, rest_shorter, misshapen_near, plan_spans}
 use Rattle.script.proofs.Telling.{Between, call_tells}
-use Rattle.script.specs.Buffers.{newlines, room_for}
+use Rattle.script.specs.Buffers.{Filled, newlines, room_for}
 use Rattle.script.specs.Playing.{Played, finished, broken, called}
-use Rattle.script.specs.Replays.{Answered, refused, accepted, Replayed}
+use Rattle.script.specs.Replays.{Answered, refused, accepted, WroteAll}
 
 -- answers of ordinary size, no more than so many
 record Modest (most : ℕ) (answers : List Answer) : Type 0 where
@@ -118,7 +118,12 @@ answered_modest text answers few (accepted {b = b} {s = s} {rest = rest} opened 
     let others = played_modest plan_kind (λ log c t run. (opened.promise log c t run).counted.none_lost) between (omega (arith, spans.lines)) (omega (arith, spans.less)) played in
     record { ordinary = (verdict, others.ordinary); count = omega (arith, others.count, told.1) }
 
-pub replay_fits : (text written : List ℕ) → length text ≤ 65536 → Replayed text written → length written ≤ room_for text
-replay_fits text written few (answers, answered, is) =
+-- so the answers have room, and stand at the front of the buffer
+pub answers_fill : (text before after : List ℕ) (m : ℕ) → length text ≤ 65536 → room_for text ≤ length before → WroteAll text before after m → Filled text before (Ok m) after
+answers_fill text before after m few room (answers, answered, wrote) =
     let modest = answered_modest text answers few answered in
-    omega (arith, ap length is, lines_fit answers modest.ordinary, modest.count)
+    let fits : length (lines_of answers) ≤ room_for text = omega (arith, lines_fit answers modest.ordinary, modest.count) in
+    let (e, f) = wrote [] before refl refl (omega arith) in
+    let is : m ≡ length (lines_of answers) = omega (arith, e) in
+    let whole : after ≡ lines_of answers ++ drop (length (lines_of answers)) before = f in
+    (few, room, (lines_of answers, (answers, answered, refl), is, omega arith, whole ∙ ap (λ (n : ℕ). lines_of answers ++ drop n before) (sym is)))

@@ -11,7 +11,7 @@ use Rattle.text.specs.declared.answer.Answer.TheVariants.{Refused, Total}
 use Rattle.text.specs.declared.call.Call.{Call}
 use Rattle.script.specs.Performing.{Performed}
 use Rattle.text.specs.Reader.{Misshapen}
-use Rattle.plan.specs.Written.{lines_of}
+use Rattle.plan.specs.Written.{Appended, lines_of}
 
 -- From what is left of the text, the number of its first line, the bank and the worker, to the answers: the counts at the end of the text, or a fault and nothing more.
 pub data Played {S : Type 0} (k : Kind S) : List ℕ → ℕ → S → State → List Answer → Type 0 where
@@ -19,6 +19,6 @@ pub data Played {S : Type 0} (k : Kind S) : List ℕ → ℕ → S → State →
   broken : {text : List ℕ} {line : ℕ} {b : S} {s : State} {fault : Fault} → (text ≢ []) → Misshapen CallForm text line fault → Played k text line b s (Refused fault ∷ [])
   called : {text rest : List ℕ} {line : ℕ} {b c : S} {s t : State} {answer : Answer} {answers : List Answer} (call : Call) → ValidCall call → text ≡ call_bytes call ++ rest → Performed k b s call line answer c t → Played k rest (line + 1) c t answers → Played k text line b s (answer ∷ answers)
 
--- what was written before is followed by the lines of the answers
-abbrev pub Wrote : {S : Type 0} → Kind S → List ℕ → ℕ → S → State → List ℕ → List ℕ → Type 0
-Wrote k text line b s before after = (answers : List Answer) × Played k text line b s answers × (after ≡ before ++ lines_of answers)
+-- behind the n bytes of a buffer that are written there come the lines of the answers
+abbrev pub Wrote : {S : Type 0} → Kind S → List ℕ → ℕ → S → State → List ℕ → ℕ → List ℕ → ℕ → Type 0
+Wrote k text line b s before n after m = (answers : List Answer) × Played k text line b s answers × Appended before n (lines_of answers) after m

@@ -8,7 +8,7 @@ use Rattle.text.specs.declared.answer.Answer.TheVariants.{Accepted, Refused}
 use Rattle.turns.specs.declared.State.{State}
 use Rattle.plan.specs.Openings.{Opened, Unopened}
 use Rattle.plan.specs.Plans.{PlanBank, no_rows, plan_kind}
-use Rattle.plan.specs.Written.{lines_of}
+use Rattle.plan.specs.Written.{Appended, lines_of}
 use Rattle.script.specs.Accounts.{Accounted}
 use Rattle.script.specs.Playing.{Played}
 
@@ -20,6 +20,10 @@ pub data Answered (text : List ℕ) : List Answer → Type 0 where
 abbrev pub Replayed : List ℕ → List ℕ → Type 0
 Replayed text written = (answers : List Answer) × Answered text answers × (written ≡ lines_of answers)
 
--- Nothing is written for a text above 65,536 bytes.
+-- the answers stand at the front of a buffer, if they have room
+abbrev pub WroteAll : List ℕ → List ℕ → List ℕ → ℕ → Type 0
+WroteAll text before after m = (answers : List Answer) × Answered text answers × Appended before 0 (lines_of answers) after m
+
+-- nothing for a text above 65,536 bytes
 abbrev pub ReplayedUpto : List ℕ → List ℕ → Type 0
 ReplayedUpto text written = (length text ≤ 65536 → Replayed text written) × (65536 < length text → written ≡ [])

@@ -1,11 +1,12 @@
 // Answers into a buffer that the caller brings.
 
 ghost use Rattle.std.specs.Prelude.{◌≡◌, ◌≤◌, length};
-ghost use Rattle.script.specs.Buffers.{Filled, room_for, unwritten_number};
-ghost use Rattle.script.specs.declared.buffer.Unwritten.TheVariants.{NoMemory};
+ghost use Rattle.script.specs.Buffers.{Filled, RoomTold, unwritten_number};
 
-use crate::{replay, too_long};
-use std::alloc::{AllocError, Global};
+use crate::answers::answer_to;
+
+// The longest text that is replayed, in bytes.
+pub const LONGEST_TEXT: u64 = 65536;
 
 // No answer has more bytes than this in its line.
 const LONGEST_LINE: usize = 80;
@@ -15,41 +16,27 @@ const LONGEST_LINE: usize = 80;
 pub enum Unwritten {
     TextTooLong,
     BufferTooShort,
-    NoMemory,
 }
 
-impl From<AllocError> for Unwritten {
-    ghost from_gives = { λ _ why. why ≡ NoMemory };
-
-    fn from(_: AllocError) -> Unwritten {
-        Unwritten::NoMemory
-    }
-}
-
-// The room for the answers to a text: a line for each newline, and two more.
-fn room_for(text: &[u8]) -> usize
-    requires { length text.now ≤ 65536 }
-    ensures { result ≡ room_for text.now }
+// The room that the answers to a text need: a line for each newline, and two more.
+pub fn room_for(text: &[u8]) -> Result<usize, Unwritten>
+    ensures { RoomTold text.now result }
 {
-    let newlines = text.iter().filter(|byte| **byte == b'\n').count();
-    LONGEST_LINE * (newlines + 2)
-}
-
-// Writes what replay answers to the front of a buffer, and says how many bytes that is.
-#[tactic(auto, using(crate::proofs::Fitting::replay_fits))]
-pub fn replay_into(heap: Global, text: &[u8], buffer: &mut [u8]) -> Result<usize, Unwritten>
-    ensures { Filled text.now buffer.old result buffer.new }
-{
-    if too_long(text) {
+    if text.len() as u64 > LONGEST_TEXT {
         return Err(Unwritten::TextTooLong);
     }
-    if buffer.len() < room_for(text) {
+    let newlines = text.iter().filter(|byte| **byte == b'\n').count();
+    Ok(LONGEST_LINE * (newlines + 2))
+}
+
+// Reads a plan, judges it and runs the script after it. Writes the answers to the front of a buffer, one to a line, and says how many bytes that is.
+pub fn replay(text: &[u8], buffer: &mut [u8]) -> Result<usize, Unwritten>
+    ensures { Filled text.now buffer.old result buffer.new }
+{
+    if buffer.len() < room_for(text)? {
         return Err(Unwritten::BufferTooShort);
     }
-    let answers = replay(heap, text)?;
-    let bytes = answers.as_bytes();
-    buffer[..bytes.len()].copy_from_slice(bytes);
-    Ok(bytes.len())
+    Ok(answer_to(text, buffer))
 }
 
 // As C is told it: a number below 0, since the bytes written are at least 0.
@@ -60,7 +47,6 @@ impl From<Unwritten> for i64 {
         match why {
             Unwritten::TextTooLong => -22,
             Unwritten::BufferTooShort => -21,
-            Unwritten::NoMemory => -1,
         }
     }
 }

@@ -2,7 +2,7 @@
 
 #![tactic(auto)]
 
-ghost use Rattle.std.specs.Prelude.{◌≡◌, IfOk, length, nat_lt, string_bytes};
+ghost use Rattle.std.specs.Prelude.{IfOk};
 ghost use Rattle.script.specs.Checks.{Checked};
 ghost use Rattle.script.specs.Replays.{ReplayedUpto};
 
@@ -11,31 +11,21 @@ mod buffer;
 mod script;
 mod verdicts;
 
-use answers::answer_to;
-pub use buffer::{Unwritten, replay_into};
-use plan::Answers;
+pub use buffer::{LONGEST_TEXT, Unwritten, replay, room_for};
 use std::alloc::{AllocError, Global};
 use verdicts::{check_plan, number_of};
 
-// The longest text that is replayed, in bytes.
-pub const LONGEST_TEXT: u64 = 65536;
-
-// Whether a text is longer than any that is replayed.
-fn too_long(text: &[u8]) -> bool
-    ensures { result ≡ nat_lt 65536 (length text.now) }
+// What replay writes, in memory of its own; nothing for a text that is longer than any that is replayed.
+pub fn replayed(heap: Global, text: &[u8]) -> Result<Vec<u8>, AllocError>
+    ensures { IfOk result (λ answers. ReplayedUpto text.now answers.items) }
 {
-    text.len() as u64 > LONGEST_TEXT
-}
-
-// Reads a plan, judges it and runs the script after it, one answer to a line.
-pub fn replay(heap: Global, text: &[u8]) -> Result<String, AllocError>
-    ensures { IfOk result (λ s. ReplayedUpto text.now (string_bytes s)) }
-{
-    let mut answers = Answers::new(heap);
-    if !too_long(text) {
-        answer_to(text, &mut answers)?;
-    }
-    Ok(answers.lines)
+    let Ok(room) = room_for(text) else {
+        return Ok(Vec::new(heap));
+    };
+    let mut buffer = Vec::from_elem(heap, 0, room)?;
+    let written = replay(text, &mut buffer).unwrap_or(0);
+    buffer.truncate(written);
+    Ok(buffer)
 }
 
 // Whether a plan of stream lines alone may run: 0 if it may, else the number of its refusal.

@@ -1,14 +1,12 @@
 // Running a script, call by call.
 
-ghost use Rattle.std.specs.Prelude.{string_bytes, OnOk};
 ghost use Rattle.text.specs.Reader.{bytes_left, line_number};
 ghost use Rattle.script.specs.Performing.{Given, Performed, TurnTaken};
 ghost use Rattle.script.specs.Playing.{Wrote};
 
 use bank::Bank;
 use engine::Engine;
-use plan::Answers;
-use std::alloc::AllocError;
+use plan::tell;
 use stream::{Layer, Refusal, at_line};
 use text::{Answer, Call, Reader};
 use turns::Settled;
@@ -47,21 +45,22 @@ fn perform<B: Bank>(engine: &mut Engine<B>, call: Call, line: u64) -> Answer
     at_line(call_engine(engine, call), Layer::Engine, line).unwrap_or_else(Answer::Refused)
 }
 
-// Performs the calls up to the end of the text and then tells the counts, or up to the first fault in the text and tells that.
+// Performs the calls up to the end of the text and then tells the counts, or up to the first fault in the text and tells that. Says how many bytes of the buffer are written then.
 pub(crate) fn run_script<B: Bank + Drop>(
     reader: &mut Reader,
     mut engine: Engine<B>,
-    answers: &mut Answers,
-) -> Result<(), AllocError>
-    ensures { OnOk result (Wrote B.kind (bytes_left reader.old) (line_number reader.old) engine.bank engine.state (string_bytes answers.old.lines) (string_bytes answers.new.lines)) }
+    buffer: &mut [u8],
+    mut written: usize,
+) -> usize
+    ensures { Wrote B.kind (bytes_left reader.old) (line_number reader.old) engine.bank engine.state buffer.old written buffer.new result }
 {
     while !reader.at_end() {
         let line = reader.line_number();
         // A fault is told and not carried, and ends the script.
         match reader.next::<Call>() {
-            Ok(call) => answers.tell(perform(&mut engine, call, line))?,
-            Err(fault) => return answers.tell(Answer::Refused(fault)),
+            Ok(call) => written = tell(perform(&mut engine, call, line), buffer, written),
+            Err(fault) => return tell(Answer::Refused(fault), buffer, written),
         }
     }
-    answers.tell(Answer::Total(engine.report().counts))
+    tell(Answer::Total(engine.report().counts), buffer, written)
 }
