@@ -49,12 +49,23 @@ int64_t check(const uint8_t *text, size_t length);
 /* The longest text that replay reads, in bytes. */
 #define FINCHBRONZE_LONGEST_TEXT 65536
 
+/* C89 has no `inline`, and a compiler may warn of a function that nobody calls. */
+#if defined(__cplusplus) || (defined(__STDC_VERSION__) && __STDC_VERSION__ >= 199901L)
+#define FINCHBRONZE_INLINE static inline
+#elif defined(__GNUC__)
+#define FINCHBRONZE_INLINE static __inline__
+#else
+#define FINCHBRONZE_INLINE static
+#endif
+
 /* The room that replay wants for its answers: 80 bytes for each newline of the
  * text, and for two lines more. */
-static inline size_t replay_room(const uint8_t *text, size_t length)
+FINCHBRONZE_INLINE size_t replay_room(const uint8_t *text, size_t length)
 {
     size_t lines = 2;
-    for (size_t i = 0; i < length; i++)
+    size_t i;
+
+    for (i = 0; i < length; i++)
         lines += text[i] == '\n';
     return 80 * lines;
 }

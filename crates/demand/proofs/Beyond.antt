@@ -150,7 +150,7 @@ module _ {S : Type 0} (k : Kind S) (b : S) (ceilings : (i : ℕ) (r : Record) �
       subst (λ (x : ℕ). Fits k b x) there (fits_add (t + j * h) (fits_turns fits j t l) (fits h (omega arith)))
 
   -- where every length up to a common multiple of the gaps fits, every length fits
-  fits_beyond : ((t : ℕ) → t ≤ h → Fits k b t) → Feasible k b
+  pub fits_beyond : ((t : ℕ) → t ≤ h → Fits k b t) → Feasible k b
   fits_beyond fits t =
       let some = common.some in
       subst (λ (x : ℕ). Fits k b x) (mod-add-div' t h) (fits_turns fits (t / h) (t % h) (omega arith))

@@ -47,9 +47,12 @@ module _ (r : Row) (N : ℕ → ℕ) where
   unfolding normal_share
   normal_early q early = ap (λ n. n * r.budget) (back_before N q r.short early) ∙ zero-mul r.budget
 
-  pub normal_asked : (t : ℕ) (p : Plateau) → r.short ≤ t → On N (t - r.short) p → (q : ℕ) → t ≤ q → q < r.short + p.end → normal_share r N q ≡ p.level * r.budget
+  pub normal_late : (q : ℕ) → r.short ≤ q → normal_share r N q ≡ N (q - r.short) * r.budget
   unfolding normal_share
-  normal_asked t p late on q from before = ap (λ n. n * r.budget) (back_after N q r.short (omega arith) ∙ on.lasts (q - r.short) (omega arith) (omega arith))
+  normal_late q late = ap (λ n. n * r.budget) (back_after N q r.short late)
+
+  pub normal_asked : (t : ℕ) (p : Plateau) → r.short ≤ t → On N (t - r.short) p → (q : ℕ) → t ≤ q → q < r.short + p.end → normal_share r N q ≡ p.level * r.budget
+  normal_asked t p late on q from before = normal_late q (omega arith) ∙ ap (λ n. n * r.budget) (on.lasts (q - r.short) (omega arith) (omega arith))
 
   -- past the plateau's first ticks, in which a carried-over job does its budget, the share stays
   pub overrun_asked : {k : ℕ} → Ceiling r k N → Within r → r.class ≡ Critical → (t : ℕ) (p : Plateau) → slack r ≤ t → On N (t - slack r) p → (q : ℕ) → t ≤ q → q < slack r + p.end → overrun_share r N q ≡ p.level * r.certain - (r.budget - (q - slack r - p.start))

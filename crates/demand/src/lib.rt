@@ -2,13 +2,16 @@
 
 #![tactic(auto)]
 
-ghost use Rattle.std.specs.Prelude.{◌≡◌, MatchResult};
+ghost use Rattle.std.specs.Prelude.{◌≡◌, ◌≤◌, MatchResult};
+ghost use Rattle.stream.specs.declared.Phase.TheVariants.{Overrun};
+ghost use Rattle.demand.specs.Demands.{demand};
 ghost use Rattle.demand.specs.Shares.{slack};
 ghost use Rattle.demand.specs.Verdicts.{Accepts, Decided, DemandTold, Judged, Refuses};
 
 use bank::Bank;
 use following::Following;
 use horizon::common_multiple;
+use normal::normal_demand_alone;
 use scan::scan;
 use stream::{MOST_STREAMS, Phase, Refusal, Row, Verdict};
 
@@ -59,16 +62,28 @@ fn judge<B: Bank>(bank: &B) -> Result<Verdict, Refusal>
     scan(bank, horizon)
 }
 
-// The demand of a phase at a length of at most 1,000,000, for at most 32 streams, by way of all lengths before it.
+// The demand of a phase at a length of at most 1,000,000, for at most 32 streams: in normal mode by one ceiling of each stream, in an overrun by way of all lengths before it.
 pub fn demand_at<B: Bank>(bank: &B, phase: Phase, length: u64) -> Option<u64>
     ensures { DemandTold B.kind bank.now phase length result }
 {
     if bank.streams() > MOST_STREAMS as u64 || length > FARTHEST {
         return None;
     }
-    let mut streams = Following::new(bank, phase);
+    Some(match phase {
+        Phase::Normal => normal_demand_alone(bank, length),
+        Phase::Overrun => overrun_demand_after(bank, length),
+    })
+}
+
+// The overrun demand, by way of all lengths before: a share takes the start of its stream's plateau, which no single question tells.
+fn overrun_demand_after<B: Bank>(bank: &B, length: u64) -> u64
+    requires few { B.kind.streams bank.now ≤ 32 }
+    requires within { length ≤ 1000000 }
+    ensures { result ≡ demand B.kind bank.now Overrun length }
+{
+    let mut streams = Following::new(bank, Phase::Overrun);
     for before in 0..length {
         streams.next_demand(before);
     }
-    Some(streams.next_demand(length))
+    streams.next_demand(length)
 }

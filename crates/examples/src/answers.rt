@@ -2,6 +2,7 @@
 
 #[cfg(test)]
 mod tests {
+    use std::test::Fail;
     use stream::{Fault, Layer, Phase, Point, Refusal, Verdict};
     use text::Answer;
     use turns::{Counts, End, Settled};
@@ -72,5 +73,21 @@ mod tests {
             Answer::Ran(Settled::Idle).line().as_str(),
             "(ran 0 idle)\n"
         );
+    }
+
+    // Its fields as a point is read, and not as points are compared.
+    #[test]
+    fn a_point_field_by_field(rt: HostRuntime) -> Result<(), Fail> {
+        let point = Point {
+            phase: Phase::Normal,
+            length: 6,
+            margin: -1,
+        };
+        let text = format!(in rt.alloc(); "{point:?}")?;
+        assert_eq!(rt;
+            text.as_str(),
+            "Point { phase: Normal, length: 6, margin: -1 }"
+        );
+        Ok(())
     }
 }

@@ -22,17 +22,17 @@ enum Gate {
 }
 
 impl Gate {
-    // A tick later, where the gate shuts at the tick after it was open for `every` ticks, and opens at the next.
+    // A tick later, where the gate is shut for one tick after each `every` ticks; with 0 at each other tick, since a tick opens a shut gate.
     fn ticked(self, every: u64) -> Gate {
         match self {
             Gate::Open(passed) if passed < every => Gate::Open(passed + 1),
             Gate::Open(_) => Gate::Shut,
-            Gate::Shut => Gate::Open(0),
+            Gate::Shut => Gate::Open(1),
         }
     }
 }
 
-// While the gate is shut no release is accepted. It shuts at the tick after it was open for `every` ticks, if ever, and opens at the next.
+// While the gate is shut no release is accepted. It is shut for one tick after each `every` ticks (where that is 0, at each other tick), and never where there is no `every`.
 #[derive(Drop)]
 pub struct Gated<B> {
     inner: B,
@@ -125,4 +125,49 @@ pub fn most_let_through(gate: &Gated<Sporadic>, stream: u64, moments: u64) -> Op
     ensures bound { (most : ℕ) → result ≡ Some most → AtMost (gated sporadic) gate.now stream moments most }
 {
     most_accepted(gate, stream, moments)
+}
+
+#[cfg(test)]
+mod tests {
+    use crate::Gated;
+    use bank::Bank;
+    use std::test::Fail;
+    use stream::{Class, Record, Row};
+    use table::Sporadic;
+
+    const BRISK: Row = Row {
+        class: Class::Critical,
+        budget: 1,
+        certain: 1,
+        short: 1,
+        deadline: 1,
+        gap: 1,
+    };
+
+    // No clause says when a gate moves.
+    #[test]
+    fn the_ticks_at_which_a_gate_is_shut(rt: HostRuntime) -> Result<(), Fail> {
+        let cases = [
+            (Some(0u64), [1u64, 3, 5, 7, 9, 11].as_slice()),
+            (Some(1), &[2, 4, 6, 8, 10, 12]),
+            (Some(2), &[3, 6, 9, 12]),
+            (Some(3), &[4, 8, 12]),
+            (None, &[]),
+        ];
+        for (every, shut) in cases {
+            let mut bank = Sporadic::new();
+            bank.grow(Record::new(BRISK)?)?;
+            let mut gate = Gated::new(bank, every);
+            gate.begin(0);
+            for tick in 1..=12u64 {
+                gate.tick();
+                assert_eq!(rt;
+                    gate.opening(1, 0) == Some(0),
+                    shut.contains(&tick),
+                    "{every:?} at {tick}"
+                );
+            }
+        }
+        Ok(())
+    }
 }

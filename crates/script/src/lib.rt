@@ -22,7 +22,9 @@ pub fn replayed(heap: Global, text: &[u8]) -> Result<Vec<u8>, AllocError>
     let Ok(room) = room_for(text) else {
         return Ok(Vec::new(heap));
     };
-    let mut buffer = Vec::from_elem(heap, 0, room)?;
+    let mut buffer = Vec::new(heap);
+    // at once, where `from_elem` puts in one byte after another (docs/SPEED.md)
+    buffer.resize(room, 0)?;
     let written = replay(text, &mut buffer).unwrap_or(0);
     buffer.truncate(written);
     Ok(buffer)

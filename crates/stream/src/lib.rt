@@ -46,7 +46,7 @@ pub enum Phase {
 
 // How near a plan comes to failing at one length of time: the length less the demand of a phase there.
 // The fields stand in the order in which points are compared, so that the nearest comes first, then the shorter length, then the normal phase.
-#[derive(Clone, Copy, PartialEq, Eq, PartialOrd, Ord, Debug)]
+#[derive(Clone, Copy, PartialEq, Eq, PartialOrd, Ord)]
 pub struct Point {
     pub margin: i64,
     pub length: u64,

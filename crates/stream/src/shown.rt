@@ -95,6 +95,17 @@ impl fmt::Display for Point {
     }
 }
 
+// Not derived: that would show the fields in the order in which points are compared, and no longer as a point is read.
+impl fmt::Debug for Point {
+    fn fmt<W: fmt::Write>(&self, f: &mut fmt::Formatter<W>) -> fmt::Result {
+        f.debug_struct("Point")
+            .field("phase", &self.phase)
+            .field("length", &self.length)
+            .field("margin", &self.margin)
+            .finish()
+    }
+}
+
 impl fmt::Display for Verdict {
     ghost output = { λ verdict. Some (verdict_line verdict) };
 

@@ -1,6 +1,6 @@
 -- Digits at the front of a text, the number that they write, and where a text leaves the form of a number.
 
-use Rattle.std.proofs.Common.{◌≡◌, ℕ, zero, suc, ◌+◌, ◌^◌, ◌<◌, ◌≤◌, ◌⊎◌, ◌≢◌, min, true, false, List, [], ◌∷◌, ◌++◌, length, get_or, slice_get, Option, Some, Ok, Err, Result, take, drop, decimal, sym, refl, ap, ◌∙◌, subst, inl, inr, ⊎_elim, append_assoc, add-zero, add-one, arith, lit<, length-append}
+use Rattle.std.proofs.Common.{◌≡◌, ℕ, zero, suc, ◌+◌, ◌^◌, ◌<◌, ◌≤◌, ◌⊎◌, ◌≢◌, min, Bool, true, false, cond, List, [], ◌∷◌, ◌++◌, length, get_or, slice_get, Option, Some, Ok, Err, Result, take, drop, decimal, sym, refl, ap, ◌∙◌, subst, inl, inr, ⊎_elim, append_assoc, add-zero, add-one, arith, lit<, length-append}
 use Rattle.std.proofs.lemmas.Fmt.{digits_decimal, decimal-digits_value, decimal_digit, decimal_nonempty, first_decimal, length-decimal-le, decimal_injective, IsAscii-from_digits}
 use Rattle.std.proofs.lemmas.Option.{unwrap_or-slice_get}
 use Rattle.std.specs.Option.{unwrap_or}
@@ -41,6 +41,16 @@ digits_front xs (suc i) h =
     let value : digit_value (get_or xs i 0) + 48 ≡ get_or xs i 0 = digit_value_digit _ (is_digit _ (prefix_len_passes is_ascii_digit xs i 0 lt)) in
     let digit : IsInRange 48 57 (get_or xs i 0) = is_digit _ (prefix_len_passes is_ascii_digit xs i 0 lt) in
     subst (λ (n : ℕ). AllDigits 10 (take n xs)) (add-one i) (digits_more 10 xs i within (digits_front xs i (omega arith)) (omega (arith, value, digit)))
+
+-- how many digits stand at the front of the first n bytes
+pub digits_len_take : (n : ℕ) (xs : List ℕ) → digits_len (take n xs) ≡ min (digits_len xs) n
+digits_len_take zero xs = omega arith
+digits_len_take (suc n) [] = omega arith
+digits_len_take (suc n) (x ∷ xs) = next (is_ascii_digit x) (digits_len (take n xs)) (digits_len xs) (digits_len_take n xs)
+  where
+    next : (b : Bool) (s l : ℕ) → s ≡ min l n → cond b (1 + s) 0 ≡ min (cond b (1 + l) 0) (suc n)
+    next true s l e = omega arith
+    next false s l e = omega arith
 
 first_is : (text : List ℕ) (b : ℕ) → slice_get text 0 ≡ Some b → get_or text 0 0 ≡ b
 first_is text b e = sym (unwrap_or-slice_get text 0 0) ∙ ap (λ (o : Option ℕ). unwrap_or o 0) e

@@ -1,6 +1,7 @@
 // Answers, one to a line.
 
 ghost use Rattle.std.specs.Prelude.{◌≡◌, ◌+◌, ◌≤◌, [], ◌∷◌, ◌++◌, codes, length, Some};
+ghost use Rattle.arrayvec.specs.ArrayString.{array_string_len};
 ghost use Rattle.text.specs.Shown.{answer_line};
 
 use arrayvec::ArrayString;
@@ -31,14 +32,9 @@ impl Answer {
     pub fn shown(&self) -> ArrayString<ANSWER>
         ensures { result.bytes ≡ answer_line self.now }
     {
-        match self {
-            Answer::Accepted(verdict) => bracketed("(accepted ", verdict.shown().as_str()),
-            Answer::Refused(fault) => bracketed("(refused ", fault.shown().as_str()),
-            Answer::Took(stream) => bracketed("(took ", Buffer::new().format(*stream)),
-            Answer::Ran(settled) => bracketed("(ran ", settled.shown().as_str()),
-            Answer::Calm(moment) => bracketed("(calm ", Buffer::new().format(*moment)),
-            Answer::Total(counts) => bracketed("(total ", counts.shown().as_str()),
-        }
+        let mut text = ArrayString::new();
+        self.append_to(&mut text);
+        text
     }
 
     // The line with its newline.
@@ -46,21 +42,36 @@ impl Answer {
         ensures { result.bytes ≡ answer_line self.now ++ 10 ∷ [] }
     {
         let mut line = ArrayString::new();
-        line.push_str(self.shown().as_str());
+        self.append_to(&mut line);
         line.push_str("\n");
         line
     }
+
+    // Appends the answer to a text that has room for the longest, so that a line is made in one place (docs/SPEED.md).
+    fn append_to<const CAP: usize>(&self, text: &mut ArrayString<CAP>)
+        requires { array_string_len text.old + 128 ≤ CAP }
+        ensures bytes { text.new.bytes ≡ text.old.bytes ++ answer_line self.now }
+        ensures short { array_string_len text.new ≤ array_string_len text.old + 128 }
+    {
+        match self {
+            Answer::Accepted(verdict) => bracketed(text, "(accepted ", verdict.shown().as_str()),
+            Answer::Refused(fault) => bracketed(text, "(refused ", fault.shown().as_str()),
+            Answer::Took(stream) => bracketed(text, "(took ", Buffer::new().format(*stream)),
+            Answer::Ran(settled) => bracketed(text, "(ran ", settled.shown().as_str()),
+            Answer::Calm(moment) => bracketed(text, "(calm ", Buffer::new().format(*moment)),
+            Answer::Total(counts) => bracketed(text, "(total ", counts.shown().as_str()),
+        }
+    }
 }
 
-fn bracketed<const CAP: usize>(opening: &str, text: &str) -> ArrayString<CAP>
-    requires { length opening.now + length text.now + 1 ≤ CAP }
-    ensures { result.bytes ≡ opening.now ++ (text.now ++ codes ")") }
+fn bracketed<const CAP: usize>(text: &mut ArrayString<CAP>, opening: &str, inner: &str)
+    requires { array_string_len text.old + length opening.now + length inner.now + 1 ≤ CAP }
+    ensures bytes { text.new.bytes ≡ text.old.bytes ++ (opening.now ++ (inner.now ++ codes ")")) }
+    ensures len { array_string_len text.new ≡ array_string_len text.old + length opening.now + length inner.now + 1 }
 {
-    let mut whole = ArrayString::new();
-    whole.push_str(opening);
-    whole.push_str(text);
-    whole.push_str(")");
-    whole
+    text.push_str(opening);
+    text.push_str(inner);
+    text.push_str(")");
 }
 
 impl fmt::Display for Answer {

@@ -84,9 +84,10 @@ impl Jobs {
             .iter()
             .filter(|place| place.is_some_and(|job| job.is_background()))
             .count() as u64;
-        self.places = self
-            .places
-            .map(|place| place.filter(|job| !job.is_background()));
+        // in place, where `map` of an array would copy all places more than once (docs/SPEED.md)
+        for place in self.places.iter_mut() {
+            *place = place.filter(|job| !job.is_background());
+        }
         dropped
     }
 }

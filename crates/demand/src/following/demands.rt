@@ -45,7 +45,7 @@ impl<'a, B: Bank> Following<'a, B> {
         requires within { length ≤ 1000000 }
         requires upto { Upto B.kind self.old length }
         ensures value { result ≡ demand B.kind self.old.bank.now self.old.phase length }
-        ensures bound { result ≤ 2 ^ 43 }
+        ensures bound { result ≤ 2 ^ 42 }
         ensures onward { Onward B.kind self.old length self.new }
     {
         let mut sum = 0;

@@ -64,7 +64,8 @@ impl Timed for OnRaster {
 
     // A moment of the raster is followed by the next one a gap later.
     fn wait_after(&self, wait: u64) -> u64 {
-        wait.checked_sub(1).unwrap_or(self.record.row().gap - 1)
+        wait.checked_sub(1)
+            .unwrap_or_else(|| self.record.row().gap - 1)
     }
 
     // Field by field, since Rattle has no `..*self` of a struct with a ghost field.
