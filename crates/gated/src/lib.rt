@@ -22,7 +22,7 @@ enum Gate {
 }
 
 impl Gate {
-    // A tick later, where the gate is shut for one tick after each `every` ticks; with 0 at each other tick, since a tick opens a shut gate.
+    // A tick later, where the gate is shut for one tick after each `every` ticks; with 0 at every other tick, since a tick opens a shut gate.
     fn ticked(self, every: u64) -> Gate {
         match self {
             Gate::Open(passed) if passed < every => Gate::Open(passed + 1),
@@ -32,7 +32,7 @@ impl Gate {
     }
 }
 
-// While the gate is shut no release is accepted. It is shut for one tick after each `every` ticks (where that is 0, at each other tick), and never where there is no `every`.
+// While the gate is shut no release is accepted. It is shut for one tick after each `every` ticks (where that is 0, at every other tick), and never where there is no `every`.
 #[derive(Drop)]
 pub struct Gated<B> {
     inner: B,
